@@ -1,0 +1,3 @@
+pub mod Duties
+pub mod Ranges
+pub mod Sets

@@ -1,0 +1,45 @@
+// The words of the subject, as plain values: tags and points, duties, orders and rows.
+// A number that comes from outside may be anything its type admits; the definitions in specs/ say which are in range.
+mod duty;
+mod duty_order;
+mod order;
+mod row;
+mod sets;
+
+pub use duty::Duty;
+pub use duty::DutyEq;
+pub use duty::DutyPartialEq;
+pub use duty::Literal;
+pub use duty::LiteralEq;
+pub use duty::LiteralPartialEq;
+pub use duty::Task;
+pub use duty::TaskEq;
+pub use duty::TaskPartialEq;
+pub use duty_order::DutyOrder;
+pub use order::Due;
+pub use order::DueEq;
+pub use order::DuePartialEq;
+pub use order::DutyPattern;
+pub use order::DutyPatternEq;
+pub use order::DutyPatternPartialEq;
+pub use order::Event;
+pub use order::EventEq;
+pub use order::EventPartialEq;
+pub use order::Order;
+pub use order::OrderEq;
+pub use order::OrderPartialEq;
+pub use order::Statement;
+pub use order::StatementEq;
+pub use order::StatementPartialEq;
+pub use row::Mark;
+pub use row::MarkEq;
+pub use row::MarkPartialEq;
+pub use row::Row;
+pub use row::RowEq;
+pub use row::RowPartialEq;
+pub use sets::PointSet;
+pub use sets::PointSetEq;
+pub use sets::PointSetPartialEq;
+pub use sets::TagSet;
+pub use sets::TagSetEq;
+pub use sets::TagSetPartialEq;

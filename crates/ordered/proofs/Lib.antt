@@ -1,0 +1,4 @@
+pub mod Place
+pub mod Sets
+pub mod Shift
+pub mod Walks

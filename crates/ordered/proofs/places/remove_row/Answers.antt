@@ -1,0 +1,28 @@
+use mathlib.Core.Path.{_≡_, sym, ap, _∙_}
+use mathlib.Core.List.{_++_}
+use Prim.Native.Nat.{_+_, _<_, _≤_}
+use native.Mathlib.Omega.{arith}
+use lib.ListN.{length, take, drop}
+use borrow.Author.Needs.{needs}
+use Rattle.std.proofs.shelf.Lists.{length-take-le}
+use Rattle.ordered.specs.Ascending.{placed}
+use Rattle.ordered.proofs.Shift.{remove-front, remove-rest}
+use Rattle.ordered.proofs.Walks.{excluding-old, placed-held}
+use Rattle.ordered.proofs.places.remove_row.Needs as need
+
+pub returns : need.returns
+returns g c =
+    let less = g .T·TotalOrder .less in
+    let s = c .args .rows .now in
+    let n = c .args .n in
+    let x = c .args .x in
+    let p = c .place-at .result in
+    let ys = c .pop-front .last .rows in
+    let at : p ≡ placed less x (take n s) = search needs in
+    let more : p < n = omega (arith, placed-held less x (take n s) (c .pre .there), length-take-le n s (c .pre .within)) in
+    let first : p ≤ n = omega arith in
+    let old = excluding-old less x (take n s) (c .pre .there) in
+    record {
+      front = remove-front s p n first ys more (c .pre .within) (c .pop-front .ensures) ∙ ap (λ k. take k (take n s) ++ drop (k + 1) (take n s)) at ∙ sym old;
+      rest = remove-rest s p n first ys more (c .pre .within) (c .pop-front .ensures);
+    }

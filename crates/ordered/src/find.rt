@@ -1,0 +1,28 @@
+// The last row with a given key.
+ghost use mathlib.Core.Path.{_≡_};
+ghost use Rattle.ordered.specs.Ascending.{same};
+ghost use Rattle.ordered.specs.Finding.{Last-with, last-place};
+use crate::order::TotalOrder;
+
+// What a row is found by.
+pub trait Keyed<K> {
+    ghost key-of: { Self → K };
+
+    fn key(&self) -> K
+        ensures { λ r. ⌜ r ≡ key-of (now (self .entry)) ⌝ };
+}
+
+// The place, from 0, of the last row with this key.
+pub fn find_last<K: TotalOrder, T: Keyed<K>>(rows: &[T], key: K) -> Option<usize>
+    ensures place { λ r. ⌜ r ≡ last-place (λ row. same less (key-of row) key) (now (rows .entry)) ⌝ }
+    ensures last { λ r. ⌜ Last-with key-of (now (rows .entry)) key r ⌝ }
+{
+    let mut found = None;
+    for (i, row) in rows.iter().enumerate() {
+        let k = row.key();
+        if !k.is_less(&key) && !key.is_less(&k) {
+            found = Some(i);
+        }
+    }
+    found
+}

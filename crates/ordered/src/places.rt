@@ -1,0 +1,105 @@
+// What ordered rows do to a slice.
+ghost use mathlib.Core.Path.{_≡_};
+ghost use mathlib.Core.Bool.{true, false, not};
+ghost use mathlib.Core.List.{_∷_, _++_};
+ghost use Prim.Native.Nat.{ℕ, _+_, _-_, _<_, _≤_};
+ghost use lib.ListN.{length, getD, take, drop};
+ghost use Rattle.ordered.specs.Ascending.{placed, holding, including, excluding, following, leading};
+use crate::order::TotalOrder;
+
+// The first `count` rows, or all where there are fewer.
+pub fn front<T>(rows: &[T], count: usize) -> &[T]
+    ensures { λ r. ⌜ now r ≡ take count (now (rows .entry)) ⌝ }
+{
+    if count < rows.len() {
+        &rows[0..count]
+    } else {
+        rows
+    }
+}
+
+// The first row.
+pub fn first<T: Copy>(rows: &[T]) -> Option<T>
+    ensures { λ r. ⌜ r ≡ leading (now (rows .entry)) ⌝ }
+{
+    match rows {
+        [] => None,
+        [y, ..] => Some(*y),
+    }
+}
+
+// How many rows at the front are less than x.
+pub fn place<T: TotalOrder>(rows: &[T], x: T) -> usize
+    ensures within { λ r. ⌜ r ≤ length (now (rows .entry)) ⌝ }
+    ensures place { λ r. ⌜ r ≡ placed less x (now (rows .entry)) ⌝ }
+{
+    for (i, y) in rows.iter().enumerate() {
+        if !y.is_less(&x) {
+            return i;
+        }
+    }
+    rows.len()
+}
+
+// x goes in front, and the last row is let go.
+pub fn push_front<T: Copy>(rows: &mut [T], x: T)
+    ensures { λ _. ⌜ now (rows .exit) ≡ take (length (now (rows .entry))) (x ∷ now (rows .entry)) ⌝ }
+{
+    let mut carried = x;
+    for row in rows.iter_mut() {
+        let y = *row;
+        *row = carried;
+        carried = y;
+    }
+}
+
+// The first row goes, each of the others moves up, and the last place keeps its row.
+pub fn pop_front<T: Copy>(rows: &mut [T])
+    ensures { λ _. ⌜ now (rows .exit) ≡ drop 1 (now (rows .entry)) ++ drop (length (now (rows .entry)) - 1) (now (rows .entry)) ⌝ }
+{
+    for i in 1..rows.len() {
+        rows[i - 1] = rows[i];
+    }
+}
+
+// Whether x is one of the rows, which ascend.
+pub fn holds<T: TotalOrder>(rows: &[T], x: T) -> bool
+    ensures { λ r. ⌜ r ≡ holding less x (now (rows .entry)) ⌝ }
+{
+    let at = place(rows, x);
+    at < rows.len() && !x.is_less(&rows[at])
+}
+
+// The first row above x.
+pub fn above<T: TotalOrder>(rows: &[T], x: T) -> Option<T>
+    ensures { λ r. ⌜ r ≡ following less x (now (rows .entry)) ⌝ }
+{
+    for y in rows {
+        if x.is_less(y) {
+            return Some(*y);
+        }
+    }
+    None
+}
+
+// x goes to its place among the first n rows, where it is not, and takes the row after them.
+pub fn insert_row<T: TotalOrder>(rows: &mut [T], n: usize, x: T)
+    requires within { ⌜ n < length (now rows) ⌝ }
+    requires fresh { ⌜ holding less x (take n (now rows)) ≡ false ⌝ }
+    ensures front { λ _. ⌜ take (n + 1) (now (rows .exit)) ≡ including less x (take n (now (rows .entry))) ⌝ }
+    ensures rest { λ _. ⌜ drop (n + 1) (now (rows .exit)) ≡ drop (n + 1) (now (rows .entry)) ⌝ }
+{
+    let at = place(&rows[0..n], x);
+    push_front(&mut rows[at..n + 1], x);
+}
+
+// x leaves the first n rows, among which it is.
+pub fn remove_row<T: TotalOrder>(rows: &mut [T], n: usize, x: T)
+    requires within { ⌜ n ≤ length (now rows) ⌝ }
+    requires there { ⌜ holding less x (take n (now rows)) ≡ true ⌝ }
+    ensures front { λ _. ⌜ take (n - 1) (now (rows .exit)) ≡ excluding less x (take n (now (rows .entry))) ⌝ }
+    ensures rest { λ _. ⌜ drop (n - 1) (now (rows .exit)) ≡ drop (n - 1) (now (rows .entry)) ⌝ }
+{
+    let at = place(&rows[0..n], x);
+    pop_front(&mut rows[at..n]);
+}
