@@ -6,16 +6,16 @@ use crate::order::TotalOrder;
 
 // What a row is found by.
 pub trait Keyed<K> {
-    ghost key-of: { Self → K };
+    ghost keyed: { Self → K };
 
     fn key(&self) -> K
-        ensures { λ r. ⌜ r ≡ key-of (now (self .entry)) ⌝ };
+        ensures { λ r. ⌜ r ≡ keyed (now (self .entry)) ⌝ };
 }
 
 // The place, from 0, of the last row with this key.
 pub fn find_last<K: TotalOrder, T: Keyed<K>>(rows: &[T], key: K) -> Option<usize>
-    ensures place { λ r. ⌜ r ≡ last-place (λ row. same less (key-of row) key) (now (rows .entry)) ⌝ }
-    ensures last { λ r. ⌜ Last-with key-of (now (rows .entry)) key r ⌝ }
+    ensures place { λ r. ⌜ r ≡ last-place (λ row. same less (keyed row) key) (now (rows .entry)) ⌝ }
+    ensures last { λ r. ⌜ Last-with keyed (now (rows .entry)) key r ⌝ }
 {
     let mut found = None;
     for (i, row) in rows.iter().enumerate() {

@@ -30,7 +30,7 @@ pub impl TotalOrder for Name as NameOrder {
 
 // A name is found by itself.
 pub impl Keyed<Name> for Name as NameKey {
-    ghost key-of = { λ n. n };
+    ghost keyed = { λ n. n };
 
     fn key(&self) -> Name {
         *self
