@@ -1,3 +1,3 @@
-pub mod Names
+pub mod Spelling
 pub mod Split
 pub mod Tokens

@@ -12,7 +12,7 @@ use Rattle.text.specs.declared.token.Keyword.the-variants.{Now, Then, No, Met,
 use Rattle.text.specs.declared.token.Token.{Token}
 use Rattle.text.specs.declared.token.Token.the-variants as V
 use Rattle.text.specs.declared.token.Tokens.{Tokens}
-use Rattle.text.specs.Names.{name-like, numeral}
+use Rattle.text.specs.Spelling.{name-like, numeral}
 use Rattle.text.specs.Split.{split}
 
 -- a token, with the bytes that it holds

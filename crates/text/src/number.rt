@@ -3,7 +3,7 @@ ghost use mathlib.Core.Path.{_≡_};
 ghost use mathlib.Core.Bool.{cond};
 ghost use lib.Dec.{leb};
 ghost use Rattle.std.specs.declared.option.Option.the-variants.{None as Nothing, Some as Just};
-ghost use Rattle.text.specs.Names.{value};
+ghost use Rattle.text.specs.Spelling.{value};
 
 // The number that the digits write, where it is no more than the limit.
 pub fn value_up_to(digits: &[u8], limit: u32) -> Option<u32>

@@ -2,7 +2,7 @@
 ghost use mathlib.Core.Path.{_≡_};
 ghost use mathlib.Core.List.{_∷_, []};
 ghost use Rattle.std.specs.Options.{Cases as BySome};
-ghost use Rattle.text.specs.Names.{all, digit, inner, name-like, numeral};
+ghost use Rattle.text.specs.Spelling.{all, digit, inner, name-like, numeral};
 ghost use Rattle.text.specs.Tokens.{class-of, key-of, left, parts, token-of};
 use crate::piece::cut;
 use crate::piece::same;

@@ -1,7 +1,6 @@
 // The order of names: by their bytes, a name before its own extensions.
 ghost use mathlib.Core.Path.{_≡_};
-ghost use Rattle.text.specs.declared.name.Name.{Name as Named};
-ghost use Rattle.text.specs.Names.{bytes-before, name-before};
+ghost use Rattle.names.specs.Names.{bytes-before, name-before};
 use crate::name::Name;
 use ordered::Keyed;
 use ordered::TotalOrder;

@@ -1,6 +1,6 @@
 // Names of tags and points.
 ghost use mathlib.Core.Path.{_≡_};
-ghost use Rattle.text.specs.Names.{name-bytes, name-of};
+ghost use Rattle.names.specs.Names.{name-bytes, name-of};
 
 // A name by its bytes, at most 16, filled up with zeros.
 #[derive(Clone, Copy, PartialEq, Eq)]

@@ -1,0 +1,9 @@
+// Names of tags and points, as small plain values, and their order.
+mod name;
+mod name_order;
+
+pub use name::Name;
+pub use name::NameEq;
+pub use name::NamePartialEq;
+pub use name_order::NameKey;
+pub use name_order::NameOrder;
