@@ -1,0 +1,19 @@
+// The fields of an order: dues, sets, literals, duties, events and statements, read against the names that are declared.
+mod due;
+mod duty;
+mod event;
+mod fault;
+mod fronts;
+mod literal;
+mod set;
+
+pub use duty::read_duty;
+pub use event::read_event;
+pub use event::read_statement;
+pub use event::read_tags;
+pub use fault::Cause;
+pub use fault::CauseEq;
+pub use fault::CausePartialEq;
+pub use fault::WordFault;
+pub use fault::WordFaultEq;
+pub use fault::WordFaultPartialEq;
