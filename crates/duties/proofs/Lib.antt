@@ -1,1 +1,2 @@
 pub mod DutyLaws
+pub mod Members

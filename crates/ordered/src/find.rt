@@ -12,6 +12,12 @@ pub trait Keyed<K> {
         ensures { λ r. ⌜ r ≡ keyed (now (self .entry)) ⌝ };
 }
 
+fn is_same<K: TotalOrder>(x: &K, y: &K) -> bool
+    ensures { λ r. ⌜ r ≡ same less (now (x .entry)) (now (y .entry)) ⌝ }
+{
+    !x.is_less(y) && !y.is_less(x)
+}
+
 // The place, from 0, of the last row with this key.
 pub fn find_last<K: TotalOrder, T: Keyed<K>>(rows: &[T], key: K) -> Option<usize>
     ensures place { λ r. ⌜ r ≡ last-place (λ row. same less (keyed row) key) (now (rows .entry)) ⌝ }
@@ -19,8 +25,8 @@ pub fn find_last<K: TotalOrder, T: Keyed<K>>(rows: &[T], key: K) -> Option<usize
 {
     let mut found = None;
     for (i, row) in rows.iter().enumerate() {
-        let k = row.key();
-        if !k.is_less(&key) && !key.is_less(&k) {
+        let found_key = row.key();
+        if is_same(&found_key, &key) {
             found = Some(i);
         }
     }
