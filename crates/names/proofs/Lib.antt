@@ -1,0 +1,3 @@
+pub mod NameBytes
+pub mod NameLaws
+pub mod NameWalks
