@@ -1,0 +1,48 @@
+// The grammar of sheets, and that what is read is exactly what the grammar spells.
+// Each function does nothing: its contract is a theorem about the definitions that the readers' contracts cite.
+ghost use Rattle.grammar.specs.Reads.{Dues-are-read-as-spelled, Duties-are-read-as-spelled, Events-are-read-as-spelled, Literals-are-read-as-spelled, Names-are-told-by-spelling, Numbers-are-told-by-spelling, Sets-are-read-as-spelled, Statements-are-read-as-spelled};
+
+// A piece is taken for a name, or for a number, exactly where it is spelled as one.
+pub fn names_and_numbers_are_told_by_spelling() -> u8
+    ensures names { λ _. ⌜ Names-are-told-by-spelling ⌝ }
+    ensures numbers { λ _. ⌜ Numbers-are-told-by-spelling ⌝ }
+{
+    0
+}
+
+pub fn dues_are_read_as_spelled() -> u8
+    ensures { λ _. ⌜ Dues-are-read-as-spelled ⌝ }
+{
+    0
+}
+
+pub fn sets_are_read_as_spelled() -> u8
+    ensures { λ _. ⌜ Sets-are-read-as-spelled ⌝ }
+{
+    0
+}
+
+pub fn literals_are_read_as_spelled() -> u8
+    ensures { λ _. ⌜ Literals-are-read-as-spelled ⌝ }
+{
+    0
+}
+
+pub fn duties_are_read_as_spelled() -> u8
+    ensures { λ _. ⌜ Duties-are-read-as-spelled ⌝ }
+{
+    0
+}
+
+pub fn events_are_read_as_spelled() -> u8
+    ensures { λ _. ⌜ Events-are-read-as-spelled ⌝ }
+{
+    0
+}
+
+// Effects and conditions.
+pub fn statements_are_read_as_spelled() -> u8
+    ensures { λ _. ⌜ Statements-are-read-as-spelled ⌝ }
+{
+    0
+}
