@@ -1,9 +1,11 @@
 -- The order of duties is total. Assumes nothing.
-use mathlib.Core.Path.{_≡_, ap, _∙_}
-use mathlib.Core.Bool.{Bool, true, false, cond}
-use Prim.Native.Nat.{ℕ, _<_, _≤_}
+use mathlib.Core.Path.{_≡_, refl, ap, _∙_}
+use mathlib.Core.Bool.{Bool, true, false}
+use mathlib.Core.Logic.{_⊎_, inl, inr}
+use Prim.Native.Nat.{ℕ}
 use native.Mathlib.Omega.{arith}
 use lib.Dec.{ltb}
+use Rattle.std.proofs.shelf.Tests.{both-ways}
 use Rattle.std.proofs.shelf.Ways.{tells}
 use Rattle.duties.specs.Duties.{kind, asked, count, first-by, before}
 use Rattle.duties.specs.declared.duty.Duty.{Duty}
@@ -57,3 +59,20 @@ before-total d e p q =
     let u = first-tie (d .due) (e .due) _ _ p q in
     let k = first-tie (kind (d .task)) (kind (e .task)) _ _ (u .1) (u .2) in
     same-duty d e (u .0) (same-task (d .task) (e .task) (k .0) (ltb-tie (asked (d .task)) (asked (e .task)) (k .1) (k .2)))
+
+-- of two duties that are not the same, just one is before the other
+pub before-one : (d e : Duty) → (d ≡ e → ⊥) → ((before d e ≡ true) × (before e d ≡ false)) ⊎ ((before d e ≡ false) × (before e d ≡ true))
+before-one d e apart =
+    elim (before d e) as (λ b. before d e ≡ b → ((b ≡ true) × (before e d ≡ false)) ⊎ ((b ≡ false) × (before e d ≡ true))) [
+      | true ↦ λ p. elim (before e d) as (λ b. before e d ≡ b → ((true ≡ true) × (b ≡ false)) ⊎ ((true ≡ false) × (b ≡ true))) [
+        | true ↦ λ q. absurd (both-ways _ (before-irreflexive d) (before-transitive d e d p q))
+        | false ↦ λ q. inl (refl, refl)
+      ]
+          refl
+      | false ↦ λ p. elim (before e d) as (λ b. before e d ≡ b → ((false ≡ true) × (b ≡ false)) ⊎ ((false ≡ false) × (b ≡ true))) [
+        | true ↦ λ q. inr (refl, refl)
+        | false ↦ λ q. absurd (apart (before-total d e p q))
+      ]
+          refl
+    ]
+    refl

@@ -1,5 +1,7 @@
 -- The order of duties. Assumes nothing.
+use mathlib.Core.Path.{_≡_}
 use mathlib.Core.Bool.{Bool, true, false, cond}
+use mathlib.Core.Logic.{_⊎_}
 use Prim.Native.Nat.{ℕ, _+_, _*_}
 use lib.Dec.{ltb}
 use Rattle.duties.specs.declared.duty.Duty.{Duty}
@@ -32,3 +34,10 @@ first-by a b rest = cond (ltb a b) true (cond (ltb b a) false rest)
 -- by due minute, then by kind, then by what is asked
 abbrev pub before : Duty → Duty → Bool
 before d e = first-by (d .due) (e .due) (first-by (kind (d .task)) (kind (e .task)) (ltb (asked (d .task)) (asked (e .task))))
+
+-- no duty is before itself; before carries over; and of two unequal duties just one is before the other
+abbrev pub Duties-are-totally-ordered : Type 0
+Duties-are-totally-ordered =
+    ((d : Duty) → before d d ≡ false)
+    × ((d e f : Duty) → before d e ≡ true → before e f ≡ true → before d f ≡ true)
+    × ((d e : Duty) → (d ≡ e → ⊥) → ((before d e ≡ true) × (before e d ≡ false)) ⊎ ((before d e ≡ false) × (before e d ≡ true)))

@@ -5,6 +5,7 @@ mod duty_order;
 mod order;
 mod row;
 mod sets;
+mod stands;
 
 pub use duty::Duty;
 pub use duty::DutyEq;
@@ -43,3 +44,4 @@ pub use sets::PointSetPartialEq;
 pub use sets::TagSet;
 pub use sets::TagSetEq;
 pub use sets::TagSetPartialEq;
+pub use stands::duties_are_totally_ordered;

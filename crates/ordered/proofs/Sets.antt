@@ -1,15 +1,15 @@
 -- Ascending lists as sets, under a total order. Assumes nothing else.
-use mathlib.Core.Path.{_≡_, refl, sym, ap, subst, _∙_}
+use mathlib.Core.Path.{_≡_, refl, sym, ap, _∙_}
 use mathlib.Core.Bool.{Bool, true, false, not, _&&_, _||_, cond}
 use mathlib.Core.List.{List, [], _∷_}
 use mathlib.Core.Logic.{inl, inr}
-use Prim.Native.Nat.{ℕ, suc, _+_, _<_, _≤_}
+use Prim.Native.Nat.{suc, _+_}
 use native.Mathlib.Omega.{arith}
 use lib.ListN.{length}
-use Rattle.std.proofs.shelf.Tests.{both-ways, not-true, not-from-true, not-from-false, and-parts, and-from, and-left, and-right, or-from, or-left, or-right, or-cases, or-parts}
+use Rattle.std.proofs.shelf.Tests.{both-ways, not-true, not-from-true, not-from-false, and-parts, and-from, and-left, or-from, or-left, or-right, or-cases}
 use Rattle.std.specs.declared.option.Option.{Option}
 use Rattle.std.specs.declared.option.Option.the-variants.{Some, None}
-use Rattle.ordered.specs.Ascending.{same, member, below, rising, including, excluding, holding, following, leading, union, past, Least, lesser}
+use Rattle.ordered.specs.Ascending.{same, member, below, rising, including, excluding, holding, following, leading, union, Least, lesser}
 
 or-swap : (a b c : Bool) → (a || (b || c)) ≡ (b || (a || c))
 or-swap true true c = refl

@@ -1,10 +1,10 @@
 // What ordered rows do to a slice.
 ghost use mathlib.Core.Path.{_≡_};
-ghost use mathlib.Core.Bool.{true, false, not};
+ghost use mathlib.Core.Bool.{true, false, not, _&&_, _||_};
 ghost use mathlib.Core.List.{_∷_, _++_};
-ghost use Prim.Native.Nat.{ℕ, _+_, _-_, _<_, _≤_};
-ghost use lib.ListN.{length, getD, take, drop};
-ghost use Rattle.ordered.specs.Ascending.{placed, holding, including, excluding, following, leading};
+ghost use Prim.Native.Nat.{_+_, _-_, _<_, _≤_};
+ghost use lib.ListN.{length, take, drop};
+ghost use Rattle.ordered.specs.Ascending.{same, member, rising, placed, holding, including, excluding, following, leading, Least};
 use crate::order::TotalOrder;
 
 // The first `count` rows, or all where there are fewer.
@@ -19,8 +19,9 @@ pub fn front<T>(rows: &[T], count: usize) -> &[T]
 }
 
 // The first row.
-pub fn first<T: Copy>(rows: &[T]) -> Option<T>
-    ensures { λ r. ⌜ r ≡ leading (now (rows .entry)) ⌝ }
+pub fn first<T: TotalOrder>(rows: &[T]) -> Option<T>
+    ensures row { λ r. ⌜ r ≡ leading (now (rows .entry)) ⌝ }
+    ensures least { λ r. ⌜ (rising less (now (rows .entry)) ≡ true → Least less (λ z. true) (now (rows .entry)) r) ⌝ }
 {
     match rows {
         [] => None,
@@ -64,7 +65,8 @@ pub fn pop_front<T: Copy>(rows: &mut [T])
 
 // Whether x is one of the rows, which ascend.
 pub fn holds<T: TotalOrder>(rows: &[T], x: T) -> bool
-    ensures { λ r. ⌜ r ≡ holding less x (now (rows .entry)) ⌝ }
+    ensures answer { λ r. ⌜ r ≡ holding less x (now (rows .entry)) ⌝ }
+    ensures set { λ r. ⌜ (rising less (now (rows .entry)) ≡ true → r ≡ member less x (now (rows .entry))) ⌝ }
 {
     let at = place(rows, x);
     at < rows.len() && !x.is_less(&rows[at])
@@ -72,7 +74,8 @@ pub fn holds<T: TotalOrder>(rows: &[T], x: T) -> bool
 
 // The first row above x.
 pub fn above<T: TotalOrder>(rows: &[T], x: T) -> Option<T>
-    ensures { λ r. ⌜ r ≡ following less x (now (rows .entry)) ⌝ }
+    ensures row { λ r. ⌜ r ≡ following less x (now (rows .entry)) ⌝ }
+    ensures least { λ r. ⌜ (rising less (now (rows .entry)) ≡ true → Least less (less x) (now (rows .entry)) r) ⌝ }
 {
     for y in rows {
         if x.is_less(y) {
@@ -88,6 +91,8 @@ pub fn insert_row<T: TotalOrder>(rows: &mut [T], n: usize, x: T)
     requires fresh { ⌜ holding less x (take n (now rows)) ≡ false ⌝ }
     ensures front { λ _. ⌜ take (n + 1) (now (rows .exit)) ≡ including less x (take n (now (rows .entry))) ⌝ }
     ensures rest { λ _. ⌜ drop (n + 1) (now (rows .exit)) ≡ drop (n + 1) (now (rows .entry)) ⌝ }
+    ensures ascending { λ _. ⌜ (rising less (take n (now (rows .entry))) ≡ true → rising less (take (n + 1) (now (rows .exit))) ≡ true) ⌝ }
+    ensures members { λ _. ⌜ ((z : T) → member less z (take (n + 1) (now (rows .exit))) ≡ (same less z x || member less z (take n (now (rows .entry))))) ⌝ }
 {
     let at = place(&rows[0..n], x);
     push_front(&mut rows[at..n + 1], x);
@@ -99,6 +104,8 @@ pub fn remove_row<T: TotalOrder>(rows: &mut [T], n: usize, x: T)
     requires there { ⌜ holding less x (take n (now rows)) ≡ true ⌝ }
     ensures front { λ _. ⌜ take (n - 1) (now (rows .exit)) ≡ excluding less x (take n (now (rows .entry))) ⌝ }
     ensures rest { λ _. ⌜ drop (n - 1) (now (rows .exit)) ≡ drop (n - 1) (now (rows .entry)) ⌝ }
+    ensures ascending { λ _. ⌜ (rising less (take n (now (rows .entry))) ≡ true → rising less (take (n - 1) (now (rows .exit))) ≡ true) ⌝ }
+    ensures members { λ _. ⌜ (rising less (take n (now (rows .entry))) ≡ true → (z : T) → member less z (take (n - 1) (now (rows .exit))) ≡ (not (same less z x) && member less z (take n (now (rows .entry))))) ⌝ }
 {
     let at = place(&rows[0..n], x);
     pop_front(&mut rows[at..n]);

@@ -1,10 +1,10 @@
 ghost use mathlib.Core.Path.{_≡_};
-ghost use mathlib.Core.Bool.{_||_, cond};
+ghost use mathlib.Core.Bool.{true, not, _&&_, _||_, cond};
 ghost use mathlib.Core.List.{[]};
-ghost use Prim.Native.Nat.{_+_, _≤_};
+ghost use Prim.Native.Nat.{_≤_};
 ghost use lib.Dec.{ltb};
 ghost use lib.ListN.{length, take, drop};
-ghost use Rattle.ordered.specs.Ascending.{holding, placed, including, excluding, following, leading};
+ghost use Rattle.ordered.specs.Ascending.{same, member, rising, holding, including, excluding, following, leading, Least};
 ghost use Rattle.ordered.specs.Rows.{items, capacity};
 use crate::order::TotalOrder;
 use crate::places::above;
@@ -12,7 +12,6 @@ use crate::places::first;
 use crate::places::front;
 use crate::places::holds;
 use crate::places::insert_row;
-use crate::places::place;
 use crate::places::remove_row;
 use crate::rows::OrderedRows;
 
@@ -45,28 +44,24 @@ impl<'a, T: TotalOrder> OrderedRows<'a, T> {
         self.rows.len()
     }
 
-    // How many rows at the front are less than x.
-    pub fn place(&self, x: T) -> usize
-        ensures { λ r. ⌜ r ≡ placed less x (items (now (self .entry))) ⌝ }
-    {
-        place(front(self.rows, self.count), x)
-    }
-
     pub fn holds(&self, x: T) -> bool
-        ensures { λ r. ⌜ r ≡ holding less x (items (now (self .entry))) ⌝ }
+        ensures answer { λ r. ⌜ r ≡ holding less x (items (now (self .entry))) ⌝ }
+        ensures set { λ r. ⌜ (rising less (items (now (self .entry))) ≡ true → r ≡ member less x (items (now (self .entry)))) ⌝ }
     {
         holds(front(self.rows, self.count), x)
     }
 
     // The first row above x.
     pub fn after(&self, x: T) -> Option<T>
-        ensures { λ r. ⌜ r ≡ following less x (items (now (self .entry))) ⌝ }
+        ensures row { λ r. ⌜ r ≡ following less x (items (now (self .entry))) ⌝ }
+        ensures least { λ r. ⌜ (rising less (items (now (self .entry))) ≡ true → Least less (less x) (items (now (self .entry))) r) ⌝ }
     {
         above(front(self.rows, self.count), x)
     }
 
     pub fn first(&self) -> Option<T>
-        ensures { λ r. ⌜ r ≡ leading (items (now (self .entry))) ⌝ }
+        ensures row { λ r. ⌜ r ≡ leading (items (now (self .entry))) ⌝ }
+        ensures least { λ r. ⌜ (rising less (items (now (self .entry))) ≡ true → Least less (λ z. true) (items (now (self .entry))) r) ⌝ }
     {
         first(front(self.rows, self.count))
     }
@@ -77,6 +72,8 @@ impl<'a, T: TotalOrder> OrderedRows<'a, T> {
         ensures rows { λ r. ⌜ items (now (self .exit)) ≡ cond r (including less x (items (now (self .entry)))) (items (now (self .entry))) ⌝ }
         ensures spare { λ r. ⌜ drop (length (items (now (self .exit)))) (now (now (self .exit) .rows)) ≡ drop (length (items (now (self .exit)))) (now (now (self .entry) .rows)) ⌝ }
         ensures room { λ _. ⌜ capacity (now (self .exit)) ≡ capacity (now (self .entry)) ⌝ }
+        ensures ascending { λ _. ⌜ (rising less (items (now (self .entry))) ≡ true → rising less (items (now (self .exit))) ≡ true) ⌝ }
+        ensures members { λ r. ⌜ (r ≡ true → (z : T) → member less z (items (now (self .exit))) ≡ (same less z x || member less z (items (now (self .entry))))) ⌝ }
     {
         if self.holds(x) {
             return true;
@@ -96,6 +93,8 @@ impl<'a, T: TotalOrder> OrderedRows<'a, T> {
         ensures rows { λ _. ⌜ items (now (self .exit)) ≡ excluding less x (items (now (self .entry))) ⌝ }
         ensures spare { λ r. ⌜ drop (length (items (now (self .exit)))) (now (now (self .exit) .rows)) ≡ drop (length (items (now (self .exit)))) (now (now (self .entry) .rows)) ⌝ }
         ensures room { λ _. ⌜ capacity (now (self .exit)) ≡ capacity (now (self .entry)) ⌝ }
+        ensures ascending { λ _. ⌜ (rising less (items (now (self .entry))) ≡ true → rising less (items (now (self .exit))) ≡ true) ⌝ }
+        ensures members { λ _. ⌜ (rising less (items (now (self .entry))) ≡ true → (z : T) → member less z (items (now (self .exit))) ≡ (not (same less z x) && member less z (items (now (self .entry))))) ⌝ }
     {
         if !self.holds(x) {
             return false;

@@ -1,9 +1,8 @@
-use mathlib.Core.Path.{_≡_, refl, sym, ap, _∙_}
+use mathlib.Core.Path.{_≡_, refl, ap, _∙_}
 use mathlib.Core.List.{List, [], _∷_, _++_}
-use Prim.Native.Nat.{ℕ, _+_, _-_, _<_, _≤_}
+use Prim.Native.Nat.{ℕ, _+_, _-_, _≤_}
 use native.Mathlib.Omega.{arith}
 use lib.ListN.{length, set, getD, take, drop}
-use borrow.Author.Needs.{needs}
 use Rattle.std.proofs.shelf.Lists.{take-all, drop-all, length-drop}
 use Rattle.ordered.proofs.Shift.{up-more}
 use Rattle.ordered.proofs.places.pop_front.Needs as need

@@ -1,9 +1,7 @@
-use mathlib.Core.Path.{_≡_, sym, ap, _∙_}
+use mathlib.Core.Path.{_≡_, ap, _∙_}
 use mathlib.Core.List.{_∷_, _++_}
-use Prim.Native.Nat.{_≤_}
 use native.Mathlib.Omega.{arith}
-use lib.ListN.{length, set, getD, take, drop}
-use borrow.Author.Needs.{needs}
+use lib.ListN.{length, set, getD, take}
 use Rattle.std.proofs.shelf.Lists.{append-nil, drop-all}
 use Rattle.ordered.proofs.Shift.{down-more, down-next}
 use Rattle.ordered.proofs.places.push_front.Needs as need

@@ -1,14 +1,23 @@
-use mathlib.Core.Path.{refl, sym}
+use mathlib.Core.Path.{refl, sym, ap, _∙_}
+use Rattle.ordered.specs.Ascending.{member}
 use Rattle.ordered.specs.Rows.{items}
+use Rattle.ordered.proofs.Sets.{member-excluding}
 use Rattle.ordered.proofs.Walks.{excluding-none}
 use Rattle.ordered.proofs.rows.OrderedRows.remove.Needs as need
 
 pub returns-then-not-holds : need.returns-then-not-holds
 returns-then-not-holds g c =
-    let gone = sym (c .if-not-holds .ensures tt) in
+    let o = g .T·TotalOrder·met in
+    let less = g .T·TotalOrder .less in
+    let x = c .args .x in
+    let xs = items (c .args .self .now) in
+    let gone = c .if-not-holds .ensures tt .answer in
+    let is = sym (excluding-none less x xs (sym gone)) in
     record {
-      answer = c .if-not-holds .ensures tt;
-      rows = sym (excluding-none (g .T·TotalOrder .less) (c .args .x) (items (c .args .self .now)) gone);
+      answer = gone;
+      rows = is;
       spare = refl;
       room = refl;
+      ascending = λ h. h;
+      members = λ h z. ap (member less z) is ∙ member-excluding less (o .irreflexive) (o .transitive) (o .total) z x xs h;
     }
