@@ -1,7 +1,8 @@
 // Sets of the numbers 0 to 63. As a number, a set is the sum of 2^n over its members n.
 ghost use mathlib.Core.Path.{_≡_};
 ghost use mathlib.Core.Logic.{_⊎_, _↔_};
-ghost use Prim.Native.Nat.{ℕ, _<_};
+ghost use Prim.Native.Nat.{ℕ, _/_, _%_, _^_, _<_};
+ghost use lib.Bits.{bitOr};
 ghost use Rattle.duties.specs.Sets.{Has, adding, has};
 
 // Some of the tags.
@@ -11,6 +12,23 @@ pub struct TagSet(pub u64);
 // Some of the points: those that hold.
 #[derive(Clone, Copy, PartialEq, Eq)]
 pub struct PointSet(pub u64);
+
+// The bit of a word at a place.
+fn bit(word: u64, at: u8) -> u64
+    requires { ⌜ at < 64 ⌝ }
+    ensures { λ r. ⌜ r ≡ word / 2 ^ at % 2 ⌝ }
+{
+    (word >> at) & 1
+}
+
+// The word with the bit at a place set.
+fn with_bit(word: u64, at: u8) -> u64
+    requires { ⌜ at < 64 ⌝ }
+    ensures value { λ r. ⌜ r ≡ bitOr word (2 ^ at) ⌝ }
+    ensures each { λ r. ⌜ ((n : ℕ) → Has r n ↔ (Has word n ⊎ (n ≡ at))) ⌝ }
+{
+    word | (1 << at)
+}
 
 impl TagSet {
     pub const NONE: TagSet = TagSet(0);
@@ -22,7 +40,7 @@ impl TagSet {
         if tag > 63 {
             return false;
         }
-        (self.0 >> tag) & 1 == 1
+        bit(self.0, tag) == 1
     }
 
     // The set with one more tag. A number over 63 adds nothing.
@@ -33,6 +51,6 @@ impl TagSet {
         if tag > 63 {
             return self;
         }
-        TagSet(self.0 | (1 << tag))
+        TagSet(with_bit(self.0, tag))
     }
 }
