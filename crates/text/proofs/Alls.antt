@@ -1,13 +1,14 @@
 -- A test of each byte, by a loop over the bytes. Assumes nothing.
-use mathlib.Core.Path.{_≡_, ap, _∙_}
+use mathlib.Core.Path.{_≡_, refl, sym, ap, _∙_}
 use mathlib.Core.Bool.{Bool, true, false, _&&_}
 use mathlib.Core.List.{List, [], _∷_}
 use Prim.Native.Nat.{ℕ, suc, _+_, _-_, _<_, _≤_}
 use native.Mathlib.Omega.{arith}
+use lib.Dec.{leb}
 use lib.ListN.{length, getD, take, drop}
 use Rattle.std.proofs.shelf.Lists.{at-drop-more, at-drop-all, take-all}
-use Rattle.std.proofs.shelf.Tests.{le-leb}
-use Rattle.text.specs.Spelling.{all, digit, inner, name-like, numeral}
+use Rattle.std.proofs.shelf.Tests.{and-left, and-parts, and-right, le-leb, leb-false, leb-true, lt-leb}
+use Rattle.text.specs.Spelling.{all, digit, inner, small, name-like, numeral}
 
 module _ (f : ℕ → Bool) (bs : List ℕ) (i : ℕ) where
   pub all-more : all f bs ≡ all f (drop i bs) → i < length bs → f (getD bs i 0) ≡ true → all f bs ≡ all f (drop (i + 1) bs)
@@ -23,13 +24,20 @@ module _ (f : ℕ → Bool) (bs : List ℕ) (i : ℕ) where
 abbrev pub tail : List ℕ → List ℕ
 tail bs = take (length bs - 1) (drop 1 bs)
 
-pub name-tail : (bs : List ℕ) (r : Bool) → 0 < length bs → 97 ≤ getD bs 0 0 → getD bs 0 0 ≤ 122 → length bs ≤ 16 → r ≡ all inner (tail bs) → r ≡ name-like bs
-name-tail [] r some low high short e = absurd (omega arith)
-name-tail (b ∷ bs) r some low high short e =
-    rw (le-leb 97 b low, le-leb b 122 high, le-leb (length bs) 15 (omega arith)) (e ∙ ap (all inner) (take-all (suc (length bs) - 1) bs (omega arith)))
+pub name-long : (bs : List ℕ) → leb (length bs) 16 ≡ false → false ≡ name-like bs
+name-long [] long = refl
+name-long (b ∷ bs) long =
+    let more : 15 < length bs = omega (arith, leb-false (suc (length bs)) 16 long) in
+    sym (and-right (small b) _ (and-left _ (all inner bs) (lt-leb (length bs) 15 more)))
 
-pub numeral-tail : (bs : List ℕ) (r : Bool) → 1 < length bs → 49 ≤ getD bs 0 0 → getD bs 0 0 ≤ 57 → r ≡ all digit (tail bs) → r ≡ numeral bs
-numeral-tail [] r some low high e = absurd (omega arith)
-numeral-tail (b ∷ []) r some low high e = absurd (omega arith)
-numeral-tail (b ∷ c ∷ bs) r some low high e =
-    rw (le-leb 49 b low, le-leb b 57 high) (e ∙ ap (all digit) (take-all (suc (suc (length bs)) - 1) (c ∷ bs) (omega arith)))
+pub name-tail : (bs : List ℕ) (r : Bool) → leb (length bs) 16 ≡ true → 0 < length bs → 97 ≤ getD bs 0 0 → getD bs 0 0 ≤ 122 → r ≡ all inner (tail bs) → r ≡ name-like bs
+name-tail [] r short some low high e = absurd (omega arith)
+name-tail (b ∷ bs) r short some low high e =
+    rw (le-leb 97 b low, le-leb b 122 high, le-leb (length bs) 15 (omega (arith, leb-true (suc (length bs)) 16 short))) (e ∙ ap (all inner) (take-all (suc (length bs) - 1) bs (omega arith)))
+
+pub numeral-tail : (bs : List ℕ) (r : Bool) → 1 < length bs → (leb 49 (getD bs 0 0) && leb (getD bs 0 0) 57) ≡ true → r ≡ all digit (tail bs) → r ≡ numeral bs
+numeral-tail [] r some lead e = absurd (omega arith)
+numeral-tail (b ∷ []) r some lead e = absurd (omega arith)
+numeral-tail (b ∷ c ∷ bs) r some lead e =
+    let tests = and-parts (leb 49 b) (leb b 57) lead in
+    rw (tests .0, tests .1) (e ∙ ap (all digit) (take-all (suc (suc (length bs)) - 1) (c ∷ bs) (omega arith)))

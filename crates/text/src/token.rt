@@ -1,6 +1,9 @@
 // The tokens of a word, each a part of the caller's bytes.
 ghost use mathlib.Core.Path.{_≡_};
+ghost use mathlib.Core.Bool.{_&&_};
 ghost use mathlib.Core.List.{_∷_, []};
+ghost use lib.Dec.{leb};
+ghost use lib.ListN.{length};
 ghost use Rattle.std.specs.Options.{Cases as BySome};
 ghost use Rattle.text.specs.Spelling.{all, digit, inner, name-like, numeral};
 ghost use Rattle.text.specs.Tokens.{class-of, key-of, left, parts, token-of};
@@ -61,16 +64,33 @@ fn all_digits(bytes: &[u8]) -> bool
     true
 }
 
+// A name has no more bytes than these.
+fn is_short(piece: &[u8]) -> bool
+    ensures { λ r. ⌜ r ≡ leb (length (now (piece .entry))) 16 ⌝ }
+{
+    piece.len() <= 16
+}
+
 fn is_name_like(piece: &[u8]) -> bool
     ensures { λ r. ⌜ r ≡ name-like (now (piece .entry)) ⌝ }
 {
+    if !is_short(piece) {
+        return false;
+    }
     let [first, rest @ ..] = piece else {
         return false;
     };
-    if *first < b'a' || *first > b'z' || rest.len() > 15 {
+    if *first < b'a' || *first > b'z' {
         return false;
     }
     all_inner(rest)
+}
+
+// The first of several digits.
+fn is_leading(b: u8) -> bool
+    ensures { λ r. ⌜ r ≡ (leb 49 b && leb b 57) ⌝ }
+{
+    b >= b'1' && b <= b'9'
 }
 
 fn is_numeral(piece: &[u8]) -> bool
@@ -80,7 +100,7 @@ fn is_numeral(piece: &[u8]) -> bool
         [] => false,
         [only] => *only >= b'0' && *only <= b'9',
         [first, rest @ ..] => {
-            if *first < b'1' || *first > b'9' {
+            if !is_leading(*first) {
                 return false;
             }
             all_digits(rest)
