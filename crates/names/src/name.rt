@@ -3,7 +3,7 @@ ghost use mathlib.Core.Path.{_≡_};
 ghost use Rattle.names.specs.Names.{name-bytes, name-of};
 
 // A name by its bytes, at most 16, filled up with zeros.
-#[derive(Clone, Copy, PartialEq, Eq)]
+#[derive(Clone, Copy)]
 pub struct Name {
     pub(crate) bytes: [u8; 16],
 }

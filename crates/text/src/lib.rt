@@ -5,7 +5,6 @@ mod token;
 
 pub use number::value_up_to;
 pub use piece::cut;
-pub use piece::same;
 pub use token::Keyword;
 pub use token::Token;
 pub use token::Tokens;

@@ -33,15 +33,8 @@ pub fn cut(bytes: &[u8], sep: u8) -> (&[u8], Option<&[u8]>)
     (bytes, None)
 }
 
-// Equality of slices, as a test of their bytes.
-fn equal(a: &[u8], b: &[u8]) -> bool
+pub(crate) fn same(a: &[u8], b: &[u8]) -> bool
     ensures { λ r. ⌜ r ≡ sameBytes (now (a .entry)) (now (b .entry)) ⌝ }
 {
     a == b
-}
-
-pub fn same(a: &[u8], b: &[u8]) -> bool
-    ensures { λ r. ⌜ r ≡ sameBytes (now (a .entry)) (now (b .entry)) ⌝ }
-{
-    equal(a, b)
 }

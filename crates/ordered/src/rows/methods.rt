@@ -18,7 +18,7 @@ use crate::rows::OrderedRows;
 impl<'a, T: TotalOrder> OrderedRows<'a, T> {
     pub fn new(rows: &'a mut [T]) -> OrderedRows<'a, T>
         ensures none { λ r. ⌜ items r ≡ [] ⌝ }
-        ensures room { λ r. ⌜ capacity r ≡ length (now (rows .entry)) ⌝ }
+        ensures spare { λ r. ⌜ now (r .rows) ≡ now (rows .entry) ⌝ }
     {
         OrderedRows { rows, count: 0 }
     }
