@@ -1,0 +1,18 @@
+-- What loading promises. Assumes nothing.
+use mathlib.Core.Path.{_≡_}
+use mathlib.Core.List.{List}
+use mathlib.Core.Logic.{_↔_}
+use Prim.Native.Nat.{ℕ}
+use Rattle.std.specs.declared.result.Result.the-variants.{Ok, Err}
+use Rattle.sheets.specs.Sheets.{Content}
+use Rattle.loader.specs.declared.fault.LoadFault.{LoadFault}
+use Rattle.loader.specs.Texts.{meaning}
+use Rattle.verdicts.specs.Declares.{Declares}
+
+abbrev pub A-text-is-taken-as-what-its-lines-declare : Type 0
+A-text-is-taken-as-what-its-lines-declare = (text : List ℕ) (t : Content) → (meaning text ≡ Ok t) ↔ Declares text t
+
+abbrev pub No-text-has-two-answers : Type 0
+No-text-has-two-answers =
+    ((text : List ℕ) (t u : Content) → Declares text t → Declares text u → t ≡ u)
+    × ((text : List ℕ) (t : Content) (f : LoadFault) → Declares text t → meaning text ≡ Err f → ⊥)

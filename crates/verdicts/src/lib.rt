@@ -1,0 +1,17 @@
+// What loading promises, in the grammar's words.
+// Each function does nothing: its contract is a theorem about the definition that `load` answers by.
+ghost use Rattle.verdicts.specs.Verdicts.{A-text-is-taken-as-what-its-lines-declare, No-text-has-two-answers};
+
+// A text is taken exactly where its lines declare a sheet, and then as that sheet: its tags, points and orders, in their order, and nothing else.
+pub fn a_text_is_taken_as_what_its_lines_declare() -> u8
+    ensures { λ _. ⌜ A-text-is-taken-as-what-its-lines-declare ⌝ }
+{
+    0
+}
+
+// No text declares two sheets, and none that declares a sheet is refused.
+pub fn no_text_has_two_answers() -> u8
+    ensures { λ _. ⌜ No-text-has-two-answers ⌝ }
+{
+    0
+}
