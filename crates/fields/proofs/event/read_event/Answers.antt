@@ -16,11 +16,3 @@ returns-in-Break-read-duty-2 c =
 pub returns-in-Some-after-failed : need.returns-in-Some-after-failed
 returns-in-Some-after-failed c =
     by-none _ _ _ (c .in-rest .ensures tt) (by-some _ _ _ (c .in-Some-after-failed .ensures tt) (onward _ _ _ (c .in-Continue-read-duty-2 .ensures tt) refl))
-
-pub returns-in-Break-read-tags : need.returns-in-Break-read-tags
-returns-in-Break-read-tags c =
-    by-none _ _ _ (c .in-rest .ensures tt) (by-none _ _ _ (c .in-rest-after-failed .ensures tt) (stays _ _ _ (c .from-residual-in-Break-read-tags .ensures) (c .in-Break-read-tags .ensures tt)))
-
-pub returns : need.returns
-returns c =
-    by-none _ _ _ (c .in-rest .ensures tt) (by-none _ _ _ (c .in-rest-after-failed .ensures tt) (onward _ _ _ (c .in-Continue-read-tags .ensures tt) refl))
