@@ -2,8 +2,10 @@
 ghost use mathlib.Core.Path.{_≡_};
 ghost use Prim.Native.Nat.{_≤_};
 ghost use lib.ListN.{length};
-ghost use Rattle.text.specs.Tokens.{class-of};
-ghost use Rattle.fields.specs.Reading.{placed};
+ghost use Rattle.std.specs.declared.result.Result.the-variants.{Ok as Succeeds};
+ghost use Rattle.duties.specs.declared.duty.Literal.the-variants as L;
+ghost use Rattle.text.specs.Tokens.{class-of, token-of};
+ghost use Rattle.fields.specs.Reading.{and-then, placed};
 ghost use Rattle.fields.specs.Fields.{literal-of, literal-shape, one-name, point-of};
 use crate::fault::WordFault;
 use crate::fault::misshapen;
@@ -32,14 +34,22 @@ pub(crate) fn check_literal(field: usize, word: &[u8]) -> Result<(), WordFault>
     }
 }
 
-fn find_point(field: usize, points: &[Name], word: &[u8]) -> Result<u8, WordFault>
+fn find_point(field: usize, points: &[Name], token: Token<'_>) -> Result<u8, WordFault>
     requires { ⌜ length (now points) ≤ 64 ⌝ }
-    ensures { λ r. ⌜ r ≡ placed field (point-of (now (points .entry)) (class-of (now (word .entry)))) ⌝ }
+    ensures { λ r. ⌜ r ≡ placed field (point-of (now (points .entry)) (token-of (token .entry))) ⌝ }
 {
-    let Token::Name(name) = classify(word) else {
+    let Token::Name(name) = token else {
         return Err(misshapen(field));
     };
     find_number(field, points, name)
+}
+
+// The literal of a point that does not hold.
+fn find_denied(field: usize, points: &[Name], word: &[u8]) -> Result<Literal, WordFault>
+    requires { ⌜ length (now points) ≤ 64 ⌝ }
+    ensures { λ r. ⌜ r ≡ placed field (and-then (point-of (now (points .entry)) (class-of (now (word .entry)))) (λ n. Succeeds (L.Not n))) ⌝ }
+{
+    Ok(Literal::Not(find_point(field, points, classify(word))?))
 }
 
 pub(crate) fn find_literal(field: usize, points: &[Name], word: &[u8]) -> Result<Literal, WordFault>
@@ -47,7 +57,7 @@ pub(crate) fn find_literal(field: usize, points: &[Name], word: &[u8]) -> Result
     ensures { λ r. ⌜ r ≡ placed field (literal-of (now (points .entry)) (now (word .entry))) ⌝ }
 {
     match word {
-        [b'!', rest @ ..] => Ok(Literal::Not(find_point(field, points, rest)?)),
-        _ => Ok(Literal::Is(find_point(field, points, word)?)),
+        [b'!', rest @ ..] => find_denied(field, points, rest),
+        _ => Ok(Literal::Is(find_point(field, points, classify(word))?)),
     }
 }
