@@ -1,2 +1,4 @@
 pub mod Fits
+pub mod Pieces
 pub mod Steps
+pub mod Told
