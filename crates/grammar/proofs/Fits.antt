@@ -42,7 +42,7 @@ use Rattle.text.specs.Spelling.{value}
 use Rattle.text.specs.Split.{past, split}
 use Rattle.text.specs.Tokens.{Class, name, number, key, other, class-of, parts}
 use Rattle.text.proofs.Splits.{split-some}
-use Rattle.grammar.proofs.Steps.{Duty-parts, scanned, reached, held, duty-parts, by-cases, not-ok, read-due, same-ok, shaped-literal, then-ok}
+use Rattle.grammar.proofs.Steps.{Duty-parts, scanned, reached, held, by-cases, declared-some, duty-parts, not-ok, read-due, same-ok, shaped-literal, then-ok}
 
 later-below : (o : Option ℕ) (b : Bool) (n k : ℕ) → ((i : ℕ) → o ≡ Some i → i < k) → later o b ≡ Some n → n < suc k
 later-below (Some i) b n k h e = let lt = h i refl in let q : suc i ≡ n = cc in omega arith
@@ -52,10 +52,6 @@ later-below None b n k h e = grind arith
 place-below : {X : Type 0} (f : X → Bool) (xs : List X) (n : ℕ) → last-place f xs ≡ Some n → n < length xs
 place-below f [] n h = absurd (let z : _≡_ {A = ℕ} 0 1 = cc in omega arith)
 place-below f (x ∷ xs) n h = later-below (last-place f xs) (f x) n (length xs) (place-below f xs) h
-
-declared-some : (o : Option ℕ) (n : ℕ) → declared-at o ≡ Ok n → o ≡ Some n
-declared-some (Some m) n h = ap Some (same-ok h)
-declared-some None n h = not-ok h
 
 -- a name's number is below the count of names
 point-below : (ns : List Name) (c : Class) (n : ℕ) → point-of ns c ≡ Ok n → n < length ns

@@ -18,7 +18,7 @@ use Rattle.duties.specs.declared.sets.TagSet.{TagSet}
 use Rattle.fields.specs.declared.fault.Cause.{Cause}
 use Rattle.fields.specs.declared.fault.Cause.the-variants.{Shape}
 use Rattle.fields.specs.Dues.{due-of, form-of}
-use Rattle.fields.specs.Fields.{duty-of, literal-of, literal-shape, named, on-literal, pattern, read-set, scan-of, tags-of, two-words}
+use Rattle.fields.specs.Fields.{declared-at, duty-of, literal-of, literal-shape, named, on-literal, pattern, read-set, scan-of, tags-of, two-words}
 use Rattle.fields.specs.Reading.{and-then, by, shaped}
 use Rattle.names.specs.declared.name.Name.{Name}
 use Rattle.text.specs.Split.{past, split}
@@ -29,6 +29,10 @@ not-ok h = absurd (let z : _≡_ {A = ℕ} 0 1 = cc in omega arith)
 
 pub same-ok : {X E : Type 0} {x y : X} → _≡_ {A = Result X E} (Ok x) (Ok y) → x ≡ y
 same-ok h = cc
+
+pub declared-some : (o : Option ℕ) (n : ℕ) → declared-at o ≡ Ok n → o ≡ Some n
+declared-some (Some m) n h = ap Some (same-ok h)
+declared-some None n h = not-ok h
 
 -- both parts answered
 pub then-ok : {X Y E : Type 0} (r : Result X E) (f : X → Result Y E) (y : Y) → and-then r f ≡ Ok y → (x : X) × (r ≡ Ok x) × (f x ≡ Ok y)
