@@ -30,7 +30,7 @@ use Rattle.text.specs.Tokens.{Class, name, number, key, other, class-of, key-of
 use Rattle.grammar.specs.Grammar as G
 use Rattle.grammar.specs.Grammar.{Number-up-to, Spells-due}
 use Rattle.grammar.specs.Reads.{Dues-are-read-as-spelled}
-use Rattle.grammar.proofs.Pieces.{Lacks, joined, joined-split, lacks-all, split-one}
+use Rattle.grammar.proofs.Pieces.{Lacks, joined, joined-split, lacks-all, lacks-here, split-one}
 use Rattle.grammar.proofs.Steps.{not-ok, ok-then, read-due, same-ok, then-ok}
 use Rattle.grammar.proofs.Told.{is-key, is-number, numbers-told, numeral-digits}
 
@@ -105,3 +105,61 @@ limited-is limit ds n h = (grind (arith, tells), grind (arith, tells))
 
 limited-at : (limit : ℕ) (ds : List ℕ) (n : ℕ) → value 0 ds ≡ n → n ≤ limit → limited limit ds ≡ Ok n
 limited-at limit ds n e le = cond-true _ _ _ (le-leb (value 0 ds) limit (omega arith)) ∙ ap Ok e
+
+spell : (bs cs : List ℕ) (u v : Due) → bs ≡ cs → v ≡ u → Spells-due cs v → Spells-due bs u
+spell bs cs u v e k h = subst (λ b. Spells-due b u) (sym e) (subst (Spells-due cs) k h)
+
+-- a form's digits, within the limit
+limit-parts : (limit : ℕ) (ds : List ℕ) (make : ℕ → Due) (u : Due) → and-then (limited limit ds) (λ n. Ok (make n)) ≡ Ok u → (n : ℕ) × (value 0 ds ≡ n) × (n ≤ limit) × (make n ≡ u)
+limit-parts limit ds make u h =
+    let r = then-ok (limited limit ds) (λ n. Ok (make n)) u h in
+    let i = limited-is limit ds (r .0) (r .1) in
+    (r .0, i .0, i .1, same-ok (r .2))
+
+form-due : (bs : List ℕ) (f : Form) (u : Due) → Spells-form bs f → due-of f ≡ Ok u → Spells-due bs u
+form-due bs (at ds) u (e, m) h =
+    let (n, v, le, q) = limit-parts last-minute ds U.At u h in spell bs ds u (U.At n) e q (G.minute (m, v, le))
+form-due bs (from-now ds) u (r, e, inl (e1, e2)) h =
+    spell bs (codes "now") u (U.Now 0) (e ∙ ap (λ v. codes "now" ++ v) e1) (same-ok (ap (λ v. due-of (from-now v)) (sym e2) ∙ h)) G.from-now
+form-due bs (from-now ds) u (r, e, inr (e1, m)) h =
+    let (n, v, le, q) = limit-parts most-added ds U.Now u h in
+    spell bs (codes "now+" ++ ds) u (U.Now n) (e ∙ ap (λ v. codes "now" ++ v) e1) q (G.now-plus (m, v, le))
+form-due bs (from-t ds) u (r, e, inl (e1, e2)) h =
+    spell bs (codes "T") u (U.Then 0) (e ∙ ap (λ v. codes "T" ++ v) e1) (same-ok (ap (λ v. due-of (from-t v)) (sym e2) ∙ h)) G.from-t
+form-due bs (from-t ds) u (r, e, inr (e1, m)) h =
+    let (n, v, le, q) = limit-parts most-added ds U.Then u h in
+    spell bs (codes "T+" ++ ds) u (U.Then n) (e ∙ ap (λ v. codes "T" ++ v) e1) q (G.t-plus (m, v, le))
+
+shaped-some : {X : Type 0} (o : Option X) (x : X) → shaped o ≡ Ok x → o ≡ Some x
+shaped-some (Some y) x h = ap Some (same-ok h)
+shaped-some None x h = not-ok h
+
+pub due-spelled : (bs : List ℕ) (u : Due) → read-due bs ≡ Ok u → Spells-due bs u
+due-spelled bs u h =
+    let r = then-ok (shaped (form-of (parts bs))) due-of u h in
+    let f = words-form (r .0) (split 43 bs) (shaped-some (form-of (parts bs)) (r .0) (r .1)) in
+    form-due bs (r .0) u (subst (λ b. Spells-form b (r .0)) (joined-split 43 bs) f) (r .2)
+
+number-alone : (ds : List ℕ) → numeral ds ≡ true → map class-of (split 43 ds) ≡ number ds ∷ []
+number-alone ds h = rw (split-one 43 ds (number-lacks 43 ds refl h)) (ap (λ c. c ∷ []) (numbers-told ds .1 h))
+
+limit-read : (limit : ℕ) (ds : List ℕ) (n : ℕ) (make : ℕ → Due) → Number-up-to limit ds n → and-then (limited limit ds) (λ n. Ok (make n)) ≡ Ok (make n)
+limit-read limit ds n make (m, v, le) = ok-then (λ n. Ok (make n)) (limited-at limit ds n v le)
+
+pub due-read : (bs : List ℕ) (u : Due) → Spells-due bs u → read-due bs ≡ Ok u
+due-read _ _ (G.minute {ds} {n} h) = rw (number-alone ds (h .0)) (limit-read last-minute ds n U.At h)
+due-read _ _ G.from-now = refl
+due-read _ _ (G.now-plus {ds} {n} h) = rw (number-alone ds (h .0)) (limit-read most-added ds n U.Now h)
+due-read _ _ G.from-t = refl
+due-read _ _ (G.t-plus {ds} {n} h) = rw (number-alone ds (h .0)) (limit-read most-added ds n U.Then h)
+
+pub dues-spelled : Dues-are-read-as-spelled
+dues-spelled bs u = (due-spelled bs u, due-read bs u)
+
+-- a due is one word
+pub due-lacks : (bs : List ℕ) (u : Due) → Spells-due bs u → Lacks 32 bs
+due-lacks _ _ (G.minute {ds} h) = number-lacks 32 ds refl (h .0)
+due-lacks _ _ G.from-now = lacks-here 32 (codes "now") refl
+due-lacks _ _ (G.now-plus {ds} h) = all-append (λ b. b ≡ 32 → ⊥) (codes "now+") ds (lacks-here 32 (codes "now+") refl) (number-lacks 32 ds refl (h .0))
+due-lacks _ _ G.from-t = lacks-here 32 (codes "T") refl
+due-lacks _ _ (G.t-plus {ds} h) = all-append (λ b. b ≡ 32 → ⊥) (codes "T+") ds (lacks-here 32 (codes "T+") refl) (number-lacks 32 ds refl (h .0))

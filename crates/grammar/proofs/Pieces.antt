@@ -1,13 +1,13 @@
 -- Pieces of bytes between separators, and what follows a front. Assumes nothing.
 use mathlib.Core.Path.{_≡_, refl, sym, ap, subst, _∙_}
-use mathlib.Core.Bool.{Bool, true, false, cond}
+use mathlib.Core.Bool.{Bool, true, false, cond, not}
 use mathlib.Core.List.{List, [], _∷_, _++_}
 use mathlib.Core.Logic.{_⊎_, inl, inr}
 use Prim.Native.Nat.{ℕ, _<_}
 use native.Mathlib.Omega.{arith}
 use lib.Dec.{eqb}
 use lib.ListN.{length}
-use Rattle.std.proofs.shelf.Tests.{and-parts, both-ways, cond-both, cond-false, cond-true, eq-eqb, eqb-true, ne-eqb}
+use Rattle.std.proofs.shelf.Tests.{and-parts, both-ways, cond-both, cond-false, cond-true, eq-eqb, eqb-true, ne-eqb, not-from-true}
 use Rattle.std.specs.shelf.Lists.{All}
 use Rattle.std.specs.declared.option.Option.{Option}
 use Rattle.std.specs.declared.option.Option.the-variants.{Some, None}
@@ -24,6 +24,10 @@ pub lacks-all : (f : ℕ → Bool) (s : ℕ) (bs : List ℕ) → f s ≡ false �
 lacks-all f s [] out h = tt
 lacks-all f s (b ∷ bs) out h =
     let p = and-parts (f b) (all f bs) h in (λ e. both-ways (f s) out (ap f (sym e) ∙ p .0), lacks-all f s bs out (p .1))
+
+-- as bytes that are written out show
+pub lacks-here : (s : ℕ) (bs : List ℕ) → all (λ b. not (eqb b s)) bs ≡ true → Lacks s bs
+lacks-here s bs h = lacks-all (λ b. not (eqb b s)) s bs (not-from-true _ (eq-eqb s s refl)) h
 
 pub past-is : (p bs r : List ℕ) → past p bs ≡ Some r → bs ≡ p ++ r
 past-is [] bs r h = cc
