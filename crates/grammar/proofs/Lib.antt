@@ -1,4 +1,5 @@
 pub mod DueSpelled
+pub mod DutySpelled
 pub mod Fits
 pub mod LiteralSpelled
 pub mod Numbers

@@ -76,7 +76,7 @@ words-two (a ∷ b ∷ []) w h = ap (λ (q : List ℕ × List ℕ). q .0 ∷ q .
 words-two (a ∷ b ∷ c ∷ ws) w h = not-ok h
 
 -- two words, a due and what a reader takes from the other
-abbrev Two-words : {V : Type 0} → List ℕ → Due → V → (List ℕ → Result V Cause) → Type 0
+abbrev pub Two-words : {V : Type 0} → List ℕ → Due → V → (List ℕ → Result V Cause) → Type 0
 Two-words bs u v q = (d w : List ℕ) × (split 32 bs ≡ d ∷ w ∷ []) × (read-due d ≡ Ok u) × (q w ≡ Ok v)
 
 module _ {V Y : Type 0} (s : List ℕ → Result (Unit {0}) Cause) (q : List ℕ → Result V Cause) (g : Due → V → Y) where
@@ -90,7 +90,7 @@ module _ {V Y : Type 0} (s : List ℕ → Result (Unit {0}) Cause) (q : List ℕ
       let b = turn-parts (shaped (form-of (parts (w .0)))) (s (w .1)) due-of (q (w .1)) g y (a .2) in
       (b .0, b .1, (w .0, w .1, words-two (split 32 bs) w (a .1), b .2, ok-then (λ _. q (w .1)) (b .3) ∙ b .4), b .5)
 
-  two-read : (bs : List ℕ) (u : Due) (v : V) → Two-words bs u v (λ w. and-then (s w) (λ _. q w)) → two-of bs ≡ Ok (g u v)
+  pub two-read : (bs : List ℕ) (u : Due) (v : V) → Two-words bs u v (λ w. and-then (s w) (λ _. q w)) → two-of bs ≡ Ok (g u v)
   two-read bs u v (d, w, e, a, b) =
       let c = then-ok (s w) (λ _. q w) v b in
       rw e (turn-ok (shaped (form-of (parts d))) (s w) due-of (q w) g u v a (c .1) (c .2))
