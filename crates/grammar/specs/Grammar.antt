@@ -46,7 +46,7 @@ pub data Spells-due : List ℕ → Due → Type 0 where
 -- names joined by +: the set of the tags that they name
 pub data Spells-set (tags : List Name) : List ℕ → ℕ → Type 0 where
   one-tag : {w : List ℕ} {n : ℕ} → Numbered tags w n → Spells-set tags w (adding 0 n)
-  and-tag : {ws w : List ℕ} {s n : ℕ} → Spells-set tags ws s → Numbered tags w n → Spells-set tags (ws ++ 43 ∷ w) (adding s n)
+  and-tag : {ws : List ℕ} {s n : ℕ} → Spells-set tags ws s → (w : List ℕ) → Numbered tags w n → Spells-set tags (ws ++ 43 ∷ w) (adding s n)
 
 -- a point, or ! and a point
 pub data Spells-literal (points : List Name) : List ℕ → Literal → Type 0 where
