@@ -1,2 +1,6 @@
 pub mod Afters
+pub mod Fits
+pub mod Keeps
+pub mod Members
 pub mod Somes
+pub mod Steps
