@@ -56,14 +56,39 @@ fn statement_has_t(statement: Statement) -> bool
     }
 }
 
+fn is_duty_condition(condition: Option<Statement>) -> bool
+    ensures { λ r. ⌜ r ≡ duty-condition condition ⌝ }
+{
+    match condition {
+        Some(statement) => is_duty(statement),
+        None => false,
+    }
+}
+
+fn asks_with_t(condition: Option<Statement>) -> bool
+    ensures { λ r. ⌜ r ≡ asks-with-t condition ⌝ }
+{
+    match condition {
+        Some(Statement::Duty(duty)) => has_t(duty.due),
+        _ => false,
+    }
+}
+
+fn denies_with_t(condition: Option<Statement>) -> bool
+    ensures { λ r. ⌜ r ≡ denies-with-t condition ⌝ }
+{
+    match condition {
+        Some(Statement::NoDuty(duty)) => has_t(duty.due),
+        _ => false,
+    }
+}
+
 fn any_duty(conditions: &[Option<Statement>]) -> bool
     ensures { λ r. ⌜ r ≡ some duty-condition (now (conditions .entry)) ⌝ }
 {
     for condition in conditions {
-        if let Some(statement) = condition {
-            if is_duty(*statement) {
-                return true;
-            }
+        if is_duty_condition(*condition) {
+            return true;
         }
     }
     false
@@ -73,10 +98,8 @@ fn any_asks_with_t(conditions: &[Option<Statement>]) -> bool
     ensures { λ r. ⌜ r ≡ some asks-with-t (now (conditions .entry)) ⌝ }
 {
     for condition in conditions {
-        if let Some(Statement::Duty(duty)) = condition {
-            if has_t(duty.due) {
-                return true;
-            }
+        if asks_with_t(*condition) {
+            return true;
         }
     }
     false
@@ -86,10 +109,8 @@ fn any_denies_with_t(conditions: &[Option<Statement>]) -> bool
     ensures { λ r. ⌜ r ≡ some denies-with-t (now (conditions .entry)) ⌝ }
 {
     for condition in conditions {
-        if let Some(Statement::NoDuty(duty)) = condition {
-            if has_t(duty.due) {
-                return true;
-            }
+        if denies_with_t(*condition) {
+            return true;
         }
     }
     false
