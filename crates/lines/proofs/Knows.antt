@@ -9,6 +9,7 @@ use lib.ListN.{length, length-append}
 use Rattle.std.proofs.shelf.Tests.{cond-both, lt-ltb, or-right}
 use Rattle.std.specs.declared.result.Result.{Result}
 use Rattle.std.specs.declared.result.Result.the-variants.{Ok, Err}
+use Rattle.duties.specs.declared.order.Order.{Order}
 use Rattle.fields.specs.Reading.{and-then}
 use Rattle.names.specs.declared.name.Name.{Name}
 use Rattle.names.specs.Names.{name-before, name-of}
@@ -17,7 +18,7 @@ use Rattle.ordered.specs.declared.rows.OrderedRows.{OrderedRows}
 use Rattle.ordered.specs.Ascending.{holding, including, member, rising, same, union}
 use Rattle.ordered.specs.Rows.{capacity, items}
 use Rattle.ordered.proofs.Sets.{holding-member, length-including, member-union, rising-union, same-set}
-use Rattle.sheets.specs.Sheets.{Content, lawful, with-point, with-tag}
+use Rattle.sheets.specs.Sheets.{Content, lawful, with-order, with-point, with-tag}
 use Rattle.text.specs.Spelling.{is-name}
 use Rattle.text.specs.Split.{split}
 use Rattle.lines.specs.declared.fault.LineCause.{LineCause}
@@ -116,3 +117,7 @@ module _ (k l : OrderedRows Name) (t : Content) (n : Name) (r : Bool) (known : I
   knows-point h few =
       let a = law t h .few-tags in
       knows (with-point t n) (omega arith) (λ z. member-last name-before z n (t .tags) (t .points))
+
+-- an order declares no name
+pub knows-order : (k : OrderedRows Name) (t : Content) (o : Order) → Indexes k t → Indexes k (with-order t o)
+knows-order k t o known = record { rising = known .rising; each = known .each; room = known .room }
