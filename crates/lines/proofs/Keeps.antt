@@ -184,8 +184,13 @@ law t h =
     let e = and-parts _ _ (d .1) in
     let f = and-parts _ _ (e .1) in
     record {
-      few-tags = leb-true _ _ (a .0); few-points = leb-true _ _ (b .0); few-orders = leb-true _ _ (c .0);
-      good-tags = d .0; good-points = e .0; all-apart = f .0; all-fit = f .1
+      few-tags = leb-true _ _ (a .0);
+      few-points = leb-true _ _ (b .0);
+      few-orders = leb-true _ _ (c .0);
+      good-tags = d .0;
+      good-points = e .0;
+      all-apart = f .0;
+      all-fit = f .1;
     }
 
 lawful-by : (t : Content) → Law t → lawful t ≡ true
@@ -204,10 +209,13 @@ module _ (t : Content) (l : Law t) where
       let same : length (t .points) ≤ length (t .points) = omega arith in
       lawful-by (with-tag t n)
       (record {
-        few-tags = le; few-points = l .few-points; few-orders = l .few-orders;
-        good-tags = every-push good-name (t .tags) n (l .good-tags) g; good-points = l .good-points;
+        few-tags = le;
+        few-points = l .few-points;
+        few-orders = l .few-orders;
+        good-tags = every-push good-name (t .tags) n (l .good-tags) g;
+        good-points = l .good-points;
         all-apart = apart-first n (t .tags) (t .points) (l .all-apart) new;
-        all-fit = orders-more _ _ _ _ wider same (t .orders) (l .all-fit)
+        all-fit = orders-more _ _ _ _ wider same (t .orders) (l .all-fit);
       })
 
   point-lawful : (n : Name) → length (t .points) < 64 → good-name n ≡ true → declared t n ≡ false → lawful (with-point t n) ≡ true
@@ -218,10 +226,13 @@ module _ (t : Content) (l : Law t) where
       let same : length (t .tags) ≤ length (t .tags) = omega arith in
       lawful-by (with-point t n)
       (record {
-        few-tags = l .few-tags; few-points = le; few-orders = l .few-orders;
-        good-tags = l .good-tags; good-points = every-push good-name (t .points) n (l .good-points) g;
+        few-tags = l .few-tags;
+        few-points = le;
+        few-orders = l .few-orders;
+        good-tags = l .good-tags;
+        good-points = every-push good-name (t .points) n (l .good-points) g;
         all-apart = apart-last n (t .tags) (t .points) (l .all-apart) new;
-        all-fit = orders-more _ _ _ _ same wider (t .orders) (l .all-fit)
+        all-fit = orders-more _ _ _ _ same wider (t .orders) (l .all-fit);
       })
 
   order-lawful : (o : Order) → length (t .orders) < 128 → order-fits (length (t .tags)) (length (t .points)) o ≡ true → lawful (with-order t o) ≡ true
@@ -230,9 +241,13 @@ module _ (t : Content) (l : Law t) where
       let le : length (t .orders ++ (o ∷ [])) ≤ 128 = omega arith in
       lawful-by (with-order t o)
       (record {
-        few-tags = l .few-tags; few-points = l .few-points; few-orders = le;
-        good-tags = l .good-tags; good-points = l .good-points; all-apart = l .all-apart;
-        all-fit = every-push _ (t .orders) o (l .all-fit) fits
+        few-tags = l .few-tags;
+        few-points = l .few-points;
+        few-orders = le;
+        good-tags = l .good-tags;
+        good-points = l .good-points;
+        all-apart = l .all-apart;
+        all-fit = every-push _ (t .orders) o (l .all-fit) fits;
       })
 
 -- the four places in turn
@@ -281,19 +296,21 @@ module _ (tags points : List Name) (few : length tags ≤ 64) where
       (λ u i. filled 6 c (d ∷ ws) (λ z. last-place (Some s) (Some u) z (optional tags points 7 (d ∷ ws)))
       (λ v j. filled 7 d ws (λ d. Ok (Some s ∷ Some u ∷ Some v ∷ d ∷ [])) (λ w k. (and-from _ _ h (and-from _ _ i (and-from _ _ j (and-from _ _ k refl))), refl)))))
 
+-- the fields of an order, read one after the other
+module _ (t : Content) where
+  abbrev pub effect-next : Event → List (List ℕ) → Statement → Result Order LineCause
+  effect-next ev ws ef = and-then (worded (conditions-of (t .tags) (t .points) ws)) (λ cs. checked (record { event = ev; effect = ef; conditions = cs }))
+
+  abbrev pub event-next : List ℕ → List (List ℕ) → Event → Result Order LineCause
+  event-next w ws ev = and-then (worded (placed 3 (statement-of (t .tags) (t .points) w))) (effect-next ev ws)
+
+  abbrev pub room-next : List ℕ × List ℕ × List (List ℕ) → Result Order LineCause
+  room-next f = and-then (worded (placed 2 (event-of (t .tags) (t .points) (f .0)))) (event-next (f .1) (f .2))
+
 -- an order that is read fits, and there is room for it
 module _ (t : Content) (few : length (t .tags) ≤ 64) where
   abbrev Fit : Order → Type 0
   Fit o = (length (t .orders) < 128) × (order-fits (length (t .tags)) (length (t .points)) o ≡ true)
-
-  abbrev effect-next : Event → List (List ℕ) → Statement → Result Order LineCause
-  effect-next ev ws ef = and-then (worded (conditions-of (t .tags) (t .points) ws)) (λ cs. checked (record { event = ev; effect = ef; conditions = cs }))
-
-  abbrev event-next : List ℕ → List (List ℕ) → Event → Result Order LineCause
-  event-next w ws ev = and-then (worded (placed 3 (statement-of (t .tags) (t .points) w))) (effect-next ev ws)
-
-  abbrev room-next : List ℕ × List ℕ × List (List ℕ) → Result Order LineCause
-  room-next f = and-then (worded (placed 2 (event-of (t .tags) (t .points) (f .0)))) (event-next (f .1) (f .2))
 
   checked-made : (o : Order) → length (t .orders) < 128 → event-fits (length (t .tags)) (length (t .points)) (o .event) ≡ true → statement-fits (length (t .tags)) (length (t .points)) (o .effect) ≡ true → every (condition-fits (length (t .tags)) (length (t .points))) (o .conditions) ≡ true → packed (o .conditions) ≡ true → made (checked o) Fit
   checked-made o lt ev ef cs p =
@@ -306,10 +323,10 @@ module _ (t : Content) (few : length (t .tags) ≤ 64) where
       let E : Event → Type 0 = λ e. event-fits (length (t .tags)) (length (t .points)) e ≡ true in
       let S : Statement → Type 0 = Said (t .tags) (t .points) few in
       let D : List (Option Statement) → Type 0 = Packed (t .tags) (t .points) few in
-      then-made Fit Any (order-fields (split 9 bs)) (λ f. and-then (room 128 (length (t .orders))) (λ _. room-next f)) (made-each Any _ (λ _ _. tt))
-      (λ f _. then-made Fit (λ _. length (t .orders) < 128) (room 128 (length (t .orders))) (λ _. room-next f) (room-made 128 (length (t .orders)))
-      (λ _ lt. then-made Fit E (worded (placed 2 (event-of (t .tags) (t .points) (f .0)))) (event-next (f .1) (f .2)) (worded-made E _ (placed-made E 2 _ (made-each E (event-of (t .tags) (t .points) (f .0)) (event-fit (t .tags) (t .points) few (f .0)))))
-      (λ ev e. then-made Fit S (worded (placed 3 (statement-of (t .tags) (t .points) (f .1)))) (effect-next ev (f .2)) (worded-made S _ (placed-made S 3 _ (statement-made (t .tags) (t .points) few (f .1))))
+      then-made Fit Any (order-fields (split 9 bs)) (λ f. and-then (room 128 (length (t .orders))) (λ _. room-next t f)) (made-each Any _ (λ _ _. tt))
+      (λ f _. then-made Fit (λ _. length (t .orders) < 128) (room 128 (length (t .orders))) (λ _. room-next t f) (room-made 128 (length (t .orders)))
+      (λ _ lt. then-made Fit E (worded (placed 2 (event-of (t .tags) (t .points) (f .0)))) (event-next t (f .1) (f .2)) (worded-made E _ (placed-made E 2 _ (made-each E (event-of (t .tags) (t .points) (f .0)) (event-fit (t .tags) (t .points) few (f .0)))))
+      (λ ev e. then-made Fit S (worded (placed 3 (statement-of (t .tags) (t .points) (f .1)))) (effect-next t ev (f .2)) (worded-made S _ (placed-made S 3 _ (statement-made (t .tags) (t .points) few (f .1))))
       (λ ef s. then-made Fit D (worded (conditions-of (t .tags) (t .points) (f .2))) (λ cs. checked (record { event = ev; effect = ef; conditions = cs })) (worded-made D _ (conditions-made (t .tags) (t .points) few (f .2)))
       (λ cs c. checked-made (record { event = ev; effect = ef; conditions = cs }) lt e s (c .0) (c .1))))))
 

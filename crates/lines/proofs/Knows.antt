@@ -85,11 +85,10 @@ rows-few k t known =
 
 -- what inserting a name says of the rows before and after, and of its answer
 module _ (k l : OrderedRows Name) (t : Content) (n : Name) (r : Bool) (known : Indexes k t)
-  (answer : r ≡ (holding name-before n (items k) || ltb (length (items k)) (capacity k)))
-  (size : capacity l ≡ capacity k)
-  (ascending : rising name-before (items k) ≡ true → rising name-before (items l) ≡ true)
-  (members : r ≡ true → (z : Name) → member name-before z (items l) ≡ (same name-before z n || member name-before z (items k))) where
-
+    (answer : r ≡ (holding name-before n (items k) || ltb (length (items k)) (capacity k)))
+    (size : capacity l ≡ capacity k)
+    (ascending : rising name-before (items k) ≡ true → rising name-before (items l) ≡ true)
+    (members : r ≡ true → (z : Name) → member name-before z (items l) ≡ (same name-before z n || member name-before z (items k))) where
   -- there is room
   pub inserted : length (t .tags) + length (t .points) < 128 → r ≡ true
   inserted few =
@@ -105,7 +104,7 @@ module _ (k l : OrderedRows Name) (t : Content) (n : Name) (r : Bool) (known : I
       record {
         rising = ascending (known .rising);
         each = λ z. members (inserted few) z ∙ ap (λ b. same name-before z n || b) (known .each z) ∙ sym (one-more z);
-        room = le
+        room = le;
       }
 
   pub knows-tag : lawful t ≡ true → length (t .tags) < 64 → Indexes l (with-tag t n)

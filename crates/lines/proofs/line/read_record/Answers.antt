@@ -22,7 +22,7 @@ returns-in-Some c =
     record {
       read = reads;
       lawful = read-lawful t (content (c .add-tag .last .self)) (c .args .line .now) (c .pre .lawful) reads;
-      known = subst (Indexes (c .insert .last .self)) (sym (c .add-tag .ensures)) knows
+      known = subst (Indexes (c .insert .last .self)) (sym (c .add-tag .ensures)) knows;
     }
 
 pub returns-in-Break-name-2 : need.returns-in-Break-name-2
@@ -41,7 +41,7 @@ returns-in-Some-after-point c =
     record {
       read = reads;
       lawful = read-lawful t (content (c .add-point .last .self)) (c .args .line .now) (c .pre .lawful) reads;
-      known = subst (Indexes (insert .last .self)) (sym (c .add-point .ensures)) knows
+      known = subst (Indexes (insert .last .self)) (sym (c .add-point .ensures)) knows;
     }
 
 pub returns-in-Some-after-order : need.returns-in-Some-after-order
@@ -52,5 +52,5 @@ returns-in-Some-after-order c =
     record {
       read = reads;
       lawful = read-lawful t _ (c .args .line .now) (c .pre .lawful) reads;
-      known = subst (Indexes (c .args .known .now)) (sym (c .add-order .ensures)) (knows-order (c .args .known .now) t _ (c .pre .known))
+      known = subst (Indexes (c .args .known .now)) (sym (c .add-order .ensures)) (knows-order (c .args .known .now) t _ (c .pre .known));
     }
