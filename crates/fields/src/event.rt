@@ -30,6 +30,7 @@ pub fn read_tags(field: usize, tags: &[Name], bytes: &[u8]) -> Result<TagSet, Wo
     collect_tags(field, tags, bytes)
 }
 
+// A read of the tags, as an event.
 fn read_tags_event(field: usize, tags: &[Name], bytes: &[u8]) -> Result<Event, WordFault>
     requires { ⌜ length (now tags) ≤ 64 ⌝ }
     ensures { λ r. ⌜ r ≡ placed field (and-then (read-set (now (tags .entry)) (now (bytes .entry))) (λ s. Succeeds (E.Tags s))) ⌝ }

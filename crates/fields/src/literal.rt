@@ -44,7 +44,7 @@ fn find_point(field: usize, points: &[Name], token: Token<'_>) -> Result<u8, Wor
     find_number(field, points, name)
 }
 
-// The literal of a point that does not hold.
+// What follows `!`: the literal that the point does not hold.
 fn find_denied(field: usize, points: &[Name], word: &[u8]) -> Result<Literal, WordFault>
     requires { ⌜ length (now points) ≤ 64 ⌝ }
     ensures { λ r. ⌜ r ≡ placed field (and-then (point-of (now (points .entry)) (class-of (now (word .entry)))) (λ n. Succeeds (L.Not n))) ⌝ }
