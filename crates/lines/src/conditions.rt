@@ -1,6 +1,6 @@
 // The conditions of an order: its fields from the fourth on, four at most.
 ghost use mathlib.Core.Path.{_≡_};
-ghost use Prim.Native.Nat.{_≤_};
+ghost use Prim.Native.Nat.{_^_, _<_, _≤_};
 ghost use lib.ListN.{drop, length};
 ghost use Rattle.std.specs.Results.{Cases};
 ghost use Rattle.std.specs.declared.result.Result.the-variants.{Err as Bad, Ok as Good};
@@ -11,8 +11,9 @@ use fields::read_statement;
 use names::Name;
 use text::cut;
 
-// How many fields are left.
+// How many fields are left. Of a slice that stands in an option no length is known, so the caller says that they can be counted.
 pub(crate) fn count_fields(left: Option<&[u8]>) -> usize
+    requires { ⌜ length (fields-of left) < 2 ^ 64 ⌝ }
     ensures { λ r. ⌜ r ≡ length (fields-of (left .entry)) ⌝ }
 {
     let mut count: usize = 0;
