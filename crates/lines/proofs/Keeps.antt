@@ -44,7 +44,7 @@ use Rattle.text.specs.Split.{past, split}
 use Rattle.lines.specs.declared.fault.LineCause.{LineCause}
 use Rattle.lines.specs.declared.fault.LineCause.the-variants as C
 use Rattle.lines.specs.Lines.{checked, conditions-of, declared, line-of, name-of-field, new-name, one-field, optional, order-fields, order-of, room, worded}
-use Rattle.lines.proofs.Fits.{event-fit, statement-fit}
+use Rattle.grammar.proofs.Fits.{event-fit, statement-fit}
 use Rattle.lines.proofs.Members.{apart-first, apart-last}
 
 -- what holds of each good answer

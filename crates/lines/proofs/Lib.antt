@@ -1,10 +1,7 @@
-pub mod Afters
-pub mod Fits
 pub mod Keeps
 pub mod Knows
 pub mod Members
 pub mod OrderFields
 pub mod Readings
 pub mod Somes
-pub mod Steps
 pub mod Told

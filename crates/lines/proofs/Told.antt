@@ -1,58 +1,32 @@
 -- What tells that a piece is a name, and what is read of it. Assumes nothing.
-use mathlib.Core.Path.{_≡_, sym, ap, subst, refl, _∙_}
+use mathlib.Core.Path.{_≡_, sym, ap, refl, _∙_}
 use mathlib.Core.Bool.{Bool, true, false, cond}
 use mathlib.Core.List.{List, [], _∷_}
 use mathlib.Core.Logic.{inl, inr}
 use Prim.Native.Nat.{ℕ, _<_}
 use native.Mathlib.Omega.{arith}
 use denote.Ref.{RefT}
-use lib.Chars.{codes}
 use lib.ListN.{length}
-use Rattle.std.proofs.shelf.Equals.{sameBytes-decides}
-use Rattle.std.proofs.shelf.Tests.{and-from, and-parts, both-ways, cases-bool, lt-ltb, not-from-false, not-true}
-use Rattle.std.proofs.shelf.Ways.{tells}
-use Rattle.std.specs.shelf.Text.{sameBytes}
-use Rattle.std.specs.declared.option.Option.{Option}
-use Rattle.std.specs.declared.option.Option.the-variants.{Some, None}
+use Rattle.std.proofs.shelf.Tests.{cases-bool, lt-ltb}
 use Rattle.std.specs.declared.result.Result.{Result}
 use Rattle.std.specs.declared.result.Result.the-variants.{Ok, Err}
 use Rattle.fields.specs.Reading.{and-then}
+use Rattle.grammar.proofs.Told.{is-named, names-told}
 use Rattle.names.specs.declared.name.Name.{Name}
 use Rattle.names.specs.Names.{name-of}
-use Rattle.text.specs.declared.token.Keyword.{Keyword}
 use Rattle.text.specs.declared.token.Token.{Token}
 use Rattle.text.specs.declared.token.Token.the-variants as V
-use Rattle.text.specs.Spelling.{is-name, name-like, reserved}
+use Rattle.text.specs.Spelling.{is-name}
 use Rattle.text.specs.Split.{split}
-use Rattle.text.specs.Tokens.{name, class-of, key-else, key-of, token-of}
+use Rattle.text.specs.Tokens.{name, class-of, key-of, token-of}
 use Rattle.text.proofs.Splits.{split-some}
 use Rattle.lines.specs.declared.fault.LineCause.{LineCause}
 use Rattle.lines.specs.declared.fault.LineCause.the-variants as C
 use Rattle.lines.specs.Lines.{name-of-field, new-name, one-field, room}
 
-is-named : (o : Option Keyword) (bs n : List ℕ) → key-else o bs ≡ name n → (name-like bs ≡ true) × (o ≡ None)
-is-named (Some k) bs n h = absurd (let z : _≡_ {A = ℕ} 0 1 = cc in omega arith)
-is-named None bs n h = (grind (arith, tells), refl)
-
-not-reserved : (w : List ℕ) → key-of w ≡ None → reserved w ≡ false
-not-reserved w h = grind (arith, tells)
-
-not-key : (w : List ℕ) → reserved w ≡ false → sameBytes w (codes "T") ≡ false → key-of w ≡ None
-not-key w h k = grind (arith, tells)
-
-not-t : (w : List ℕ) → name-like w ≡ true → sameBytes w (codes "T") ≡ false
-not-t w h =
-    elim (cases-bool (sameBytes w (codes "T"))) [
-      | inl e ↦ absurd (both-ways false refl (subst (λ v. name-like v ≡ true) (sameBytes-decides w (codes "T") .0 e) h))
-      | inr e ↦ e
-    ]
-
-named : (w : List ℕ) → is-name w ≡ true → class-of w ≡ name w
-named w h = let p = and-parts _ _ h in rw (not-key w (not-true _ (p .1)) (not-t w (p .0)), p .0)
-
 -- a name token is of a name
 pub told-name : (w n : List ℕ) → name n ≡ class-of w → is-name w ≡ true
-told-name w n h = let i = is-named (key-of w) w n (sym h) in and-from _ _ (i .0) (not-from-false _ (not-reserved w (i .1)))
+told-name w n h = names-told w .0 (sym h ∙ ap name (sym (is-named (key-of w) w n (sym h) .0)))
 
 no-token : (r : Token) (w : List ℕ) → ((x : RefT (List ℕ)) → r ≡ V.Name x → ⊥) → token-of r ≡ name w → ⊥
 no-token (V.Name x) w other h = other x refl
@@ -63,7 +37,7 @@ no-token V.Other w other h = let z : _≡_ {A = ℕ} 0 1 = cc in omega arith
 -- any other token is of no name
 pub told-other : (r : Token) (w : List ℕ) → ((x : RefT (List ℕ)) → r ≡ V.Name x → ⊥) → token-of r ≡ class-of w → is-name w ≡ false
 told-other r w other h =
-    elim (cases-bool (is-name w)) [ inl e ↦ absurd (no-token r w other (h ∙ named w e)) | inr e ↦ e ]
+    elim (cases-bool (is-name w)) [ inl e ↦ absurd (no-token r w other (h ∙ names-told w .1 e)) | inr e ↦ e ]
 
 module _ (known : Name → Bool) (m : ℕ) (bs : List ℕ) where
   many : (w : List ℕ) (ws : List (List ℕ)) → 0 < length ws → one-field (w ∷ ws) ≡ Err C.Fields

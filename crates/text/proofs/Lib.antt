@@ -1,3 +1,4 @@
 pub mod Alls
+pub mod Pasts
 pub mod Splits
 pub mod Values

@@ -2,7 +2,7 @@ use mathlib.Core.List.{[], _∷_, _++_}
 use native.Mathlib.Omega.{arith}
 use lib.Chars.{codes}
 use Rattle.std.proofs.shelf.Ways.{tells}
-use Rattle.lines.proofs.Afters.{past-front}
+use Rattle.text.proofs.Pasts.{past-front}
 use Rattle.lines.proofs.fronts.after_tag.Needs as need
 
 pub returns-in-116 : need.returns-in-116
