@@ -1,12 +1,11 @@
 -- A due is read as the grammar spells it. Assumes nothing.
 use mathlib.Core.Path.{_≡_, refl, sym, ap, subst, _∙_}
-use mathlib.Core.Bool.{Bool, true, false, cond}
+use mathlib.Core.Bool.{true, false}
 use mathlib.Core.List.{List, [], _∷_, _++_, map}
-use mathlib.Core.Logic.{_⊎_, inl, inr, _↔_}
-use Prim.Native.Nat.{ℕ, _<_, _≤_}
+use mathlib.Core.Logic.{_⊎_, inl, inr}
+use Prim.Native.Nat.{ℕ, _≤_}
 use native.Mathlib.Omega.{arith}
 use lib.Chars.{codes}
-use lib.Dec.{leb}
 use Rattle.std.proofs.shelf.Elements.{all-append}
 use Rattle.std.proofs.shelf.Lists.{append-nil}
 use Rattle.std.proofs.shelf.Equals.{sameBytes-decides}
@@ -14,17 +13,15 @@ use Rattle.std.proofs.shelf.Tests.{cond-true, le-leb}
 use Rattle.std.proofs.shelf.Ways.{tells}
 use Rattle.std.specs.declared.option.Option.{Option}
 use Rattle.std.specs.declared.option.Option.the-variants.{Some, None}
-use Rattle.std.specs.declared.result.Result.{Result}
-use Rattle.std.specs.declared.result.Result.the-variants.{Ok, Err}
+use Rattle.std.specs.declared.result.Result.the-variants.{Ok}
 use Rattle.duties.specs.declared.order.Due.{Due}
 use Rattle.duties.specs.declared.order.Due.the-variants as U
 use Rattle.duties.specs.Ranges.{last-minute, most-added}
-use Rattle.fields.specs.declared.fault.Cause.{Cause}
 use Rattle.fields.specs.Dues.{Form, alone, at, based, due-of, form-of, from-now, from-t, key-plus, limited, plus}
 use Rattle.fields.specs.Reading.{and-then, shaped}
 use Rattle.text.specs.declared.token.Keyword.{Keyword}
 use Rattle.text.specs.declared.token.Keyword.the-variants.{Now, Then, No, Met, Failed, Scan, Reach, Hold, Tag, Point, Order}
-use Rattle.text.specs.Spelling.{all, digit, numeral, value}
+use Rattle.text.specs.Spelling.{digit, numeral, value}
 use Rattle.text.specs.Split.{split}
 use Rattle.text.specs.Tokens.{Class, name, number, key, other, class-of, key-of, parts}
 use Rattle.grammar.specs.Grammar as G

@@ -1,73 +1,36 @@
--- What is read fits what is declared. Assumes nothing.
-use mathlib.Core.Path.{_≡_, refl, sym, ap, subst, _∙_}
-use mathlib.Core.Bool.{Bool, true, cond}
-use mathlib.Core.List.{List, [], _∷_, map}
-use mathlib.Core.Logic.{_⊎_, inl, inr}
-use Prim.Native.Nat.{ℕ, zero, suc, _+_, _^_, _<_, _≤_}
+-- What is read fits what is declared, since what is spelled does. Assumes nothing.
+use mathlib.Core.Path.{_≡_, refl}
+use mathlib.Core.Bool.{true}
+use mathlib.Core.List.{List}
+use Prim.Native.Nat.{ℕ, _^_, _<_, _≤_}
 use native.Mathlib.Omega.{arith}
 use lib.Bits.{bitOr, or-add-and, and-le-l}
-use lib.Chars.{codes}
-use lib.Dec.{leb, ltb}
 use lib.ListN.{length}
 use Rattle.std.proofs.shelf.Bits.{or-lt, pow-below, pow-pos}
-use Rattle.std.proofs.shelf.Tests.{and-from, and-parts, cond-true, lt-ltb, ltb-true}
-use Rattle.std.proofs.shelf.Ways.{tells}
-use Rattle.std.specs.declared.option.Option.{Option}
-use Rattle.std.specs.declared.option.Option.the-variants.{Some, None}
-use Rattle.std.specs.declared.result.Result.{Result}
-use Rattle.std.specs.declared.result.Result.the-variants.{Ok, Err}
+use Rattle.std.proofs.shelf.Tests.{and-from, cond-true, le-leb, lt-ltb}
+use Rattle.std.specs.declared.result.Result.the-variants.{Ok}
 use Rattle.duties.specs.declared.duty.Literal.{Literal}
-use Rattle.duties.specs.declared.duty.Literal.the-variants as L
-use Rattle.duties.specs.declared.duty.Task.{Task}
-use Rattle.duties.specs.declared.duty.Task.the-variants as K
 use Rattle.duties.specs.declared.order.Due.{Due}
-use Rattle.duties.specs.declared.order.Due.the-variants as U
 use Rattle.duties.specs.declared.order.DutyPattern.{DutyPattern}
 use Rattle.duties.specs.declared.order.Event.{Event}
-use Rattle.duties.specs.declared.order.Event.the-variants as E
 use Rattle.duties.specs.declared.order.Statement.{Statement}
-use Rattle.duties.specs.declared.order.Statement.the-variants as S
 use Rattle.duties.specs.declared.sets.TagSet.{TagSet}
-use Rattle.duties.specs.Ranges.{due-fits, event-fits, last-minute, literal-fits, most-added, pattern-fits, set-fits, statement-fits, task-fits}
+use Rattle.duties.specs.Ranges.{due-fits, event-fits, last-minute, literal-fits, most-added, pattern-fits, set-fits, statement-fits}
 use Rattle.duties.specs.Sets.{adding}
-use Rattle.fields.specs.declared.fault.Cause.{Cause}
-use Rattle.fields.specs.Dues.{Form, at, from-now, from-t, due-of, form-of, limited}
-use Rattle.fields.specs.Fields.{by-words, declared-at, duty-of, event-of, literal-of, literal-shape, named, number-of, on-literal, pattern, place-of, point-of, read-set, scan-of, statement-of, tags-of, two-words}
-use Rattle.fields.specs.Reading.{and-then, by, shaped}
+use Rattle.fields.specs.Fields.{duty-of, event-of, literal-of, read-set, statement-of}
 use Rattle.names.specs.declared.name.Name.{Name}
-use Rattle.names.specs.Names.{name-before, name-of}
-use Rattle.ordered.specs.Ascending.{same}
-use Rattle.ordered.specs.Finding.{later, last-place}
-use Rattle.text.specs.Spelling.{value}
-use Rattle.text.specs.Split.{past, split}
-use Rattle.text.specs.Tokens.{Class, name, number, key, other, class-of, parts}
-use Rattle.text.proofs.Splits.{split-some}
-use Rattle.grammar.proofs.Steps.{Duty-parts, scanned, reached, held, by-cases, declared-some, duty-parts, not-ok, read-due, same-ok, shaped-literal, then-ok}
+use Rattle.grammar.specs.Grammar as G
+use Rattle.grammar.specs.Grammar.{Spells-due, Spells-duty, Spells-event, Spells-literal, Spells-set, Spells-statement}
+use Rattle.grammar.proofs.DueSpelled.{due-spelled}
+use Rattle.grammar.proofs.DutySpelled.{duty-spelled}
+use Rattle.grammar.proofs.EventSpelled.{event-spelled}
+use Rattle.grammar.proofs.LiteralSpelled.{literal-spelled}
+use Rattle.grammar.proofs.SetSpelled.{set-spelled}
+use Rattle.grammar.proofs.StatementSpelled.{statement-spelled}
+use Rattle.grammar.proofs.Steps.{read-due}
 
-later-below : (o : Option ℕ) (b : Bool) (n k : ℕ) → ((i : ℕ) → o ≡ Some i → i < k) → later o b ≡ Some n → n < suc k
-later-below (Some i) b n k h e = let lt = h i refl in let q : suc i ≡ n = cc in omega arith
-later-below None b n k h e = grind arith
-
--- a place is one of the list
-place-below : {X : Type 0} (f : X → Bool) (xs : List X) (n : ℕ) → last-place f xs ≡ Some n → n < length xs
-place-below f [] n h = absurd (let z : _≡_ {A = ℕ} 0 1 = cc in omega arith)
-place-below f (x ∷ xs) n h = later-below (last-place f xs) (f x) n (length xs) (place-below f xs) h
-
--- a name's number is below the count of names
-point-below : (ns : List Name) (c : Class) (n : ℕ) → point-of ns c ≡ Ok n → n < length ns
-point-below ns (name w) n h = place-below (λ m. same name-before m (name-of w)) ns n (declared-some (place-of ns w) n h)
-point-below ns (number s) n h = not-ok h
-point-below ns (key k) n h = not-ok h
-point-below ns other n h = not-ok h
-
-length-classes : (ws : List (List ℕ)) → length (map class-of ws) ≡ length ws
-length-classes [] = refl
-length-classes (w ∷ ws) = ap suc (length-classes ws)
-
-parts-some : (bs : List ℕ) → 0 < length (parts bs)
-parts-some bs = omega (arith, length-classes (split 43 bs), split-some 43 bs)
-
-abbrev Within : List Name → ℕ → Type 0
+-- not empty, and all its tags declared
+abbrev pub Within : List Name → ℕ → Type 0
 Within tags s = (0 < s) × (s < 2 ^ length tags)
 
 module _ (tags : List Name) (few : length tags ≤ 64) where
@@ -81,110 +44,68 @@ module _ (tags : List Name) (few : length tags ≤ 64) where
       let c = pow-pos n in
       (omega arith, omega arith)
 
-  tags-within : (m : ℕ) (cs : List Class) (s : TagSet) → m < 2 ^ length tags → (0 < m) ⊎ (0 < length cs) → tags-of tags m cs ≡ Ok s → Within tags (s .0)
-  tags-within m [] s small (inl some) h = let e : m ≡ s .0 = ap (λ (t : TagSet). t .0) (same-ok h) in (omega arith, omega arith)
-  tags-within m [] s small (inr some) h = absurd (omega arith)
-  tags-within m (c ∷ cs) s small some h =
-      let t = then-ok (point-of tags c) (λ n. tags-of tags (adding m n) cs) s h in
-      let w = adding-within m (t .0) small (point-below tags c (t .0) (t .1)) in
-      tags-within (adding m (t .0)) cs s (w .1) (inl (w .0)) (t .2)
+  spelled-within : (bs : List ℕ) (s : ℕ) → Spells-set tags bs s → Within tags s
+  spelled-within _ _ (G.one-tag {w} {n} h) = adding-within 0 n (pow-pos (length tags)) (h .1 .0)
+  spelled-within _ _ (G.and-tag {ws} {s} {n} g w h) = adding-within s n (spelled-within ws s g .1) (h .1 .0)
 
-  -- a set that is read is not empty, and all its tags are declared
   pub set-within : (bs : List ℕ) (s : TagSet) → read-set tags bs ≡ Ok s → Within tags (s .0)
-  set-within bs s h =
-      let a = then-ok (named (parts bs)) (λ _. tags-of tags 0 (parts bs)) s h in
-      tags-within 0 (parts bs) s (pow-pos (length tags)) (inr (parts-some bs)) (a .2)
+  set-within bs s h = spelled-within bs (s .0) (set-spelled tags bs (s .0) h)
 
-  pub set-fit : (points : List Name) (bs : List ℕ) (s : TagSet) → read-set tags bs ≡ Ok s → set-fits (length tags) (length points) (s .0) ≡ true
-  set-fit points bs s h =
-      let w = set-within bs s h in
-      and-from _ _ (lt-ltb 0 (s .0) (w .0)) (lt-ltb (s .0) (2 ^ length tags) (w .1))
+  module _ (points : List Name) where
+    spelled-set : (bs : List ℕ) (s : ℕ) → Spells-set tags bs s → set-fits (length tags) (length points) s ≡ true
+    spelled-set bs s h =
+        let w = spelled-within bs s h in
+        and-from _ _ (lt-ltb 0 s (w .0)) (lt-ltb s (2 ^ length tags) (w .1))
 
-limited-fits : (limit : ℕ) (ds : List ℕ) (n : ℕ) → limited limit ds ≡ Ok n → leb n limit ≡ true
-limited-fits limit ds n h = grind (arith, tells)
+    pub set-fit : (bs : List ℕ) (s : TagSet) → read-set tags bs ≡ Ok s → set-fits (length tags) (length points) (s .0) ≡ true
+    set-fit bs s h = spelled-set bs (s .0) (set-spelled tags bs (s .0) h)
 
 module _ (tags points : List Name) where
   abbrev t : ℕ
   t = length tags
 
-  abbrev p : ℕ
-  p = length points
+  abbrev q : ℕ
+  q = length points
 
-  form-fit : (f : Form) (u : Due) → due-of f ≡ Ok u → due-fits t p u ≡ true
-  form-fit (at ds) u h =
-      let r = then-ok (limited last-minute ds) (λ n. Ok (U.At n)) u h in
-      subst (λ v. due-fits t p v ≡ true) (same-ok (r .2)) (limited-fits last-minute ds (r .0) (r .1))
-  form-fit (from-now ds) u h =
-      let r = then-ok (limited most-added ds) (λ n. Ok (U.Now n)) u h in
-      subst (λ v. due-fits t p v ≡ true) (same-ok (r .2)) (limited-fits most-added ds (r .0) (r .1))
-  form-fit (from-t ds) u h =
-      let r = then-ok (limited most-added ds) (λ n. Ok (U.Then n)) u h in
-      subst (λ v. due-fits t p v ≡ true) (same-ok (r .2)) (limited-fits most-added ds (r .0) (r .1))
+  spelled-due : (bs : List ℕ) (u : Due) → Spells-due bs u → due-fits t q u ≡ true
+  spelled-due _ _ (G.minute {ds} {n} h) = le-leb n last-minute (h .2)
+  spelled-due _ _ G.from-now = refl
+  spelled-due _ _ (G.now-plus {ds} {n} h) = le-leb n most-added (h .2)
+  spelled-due _ _ G.from-t = refl
+  spelled-due _ _ (G.t-plus {ds} {n} h) = le-leb n most-added (h .2)
 
-  pub due-fit : (bs : List ℕ) (u : Due) → read-due bs ≡ Ok u → due-fits t p u ≡ true
-  due-fit bs u h = let r = then-ok (shaped (form-of (parts bs))) due-of u h in form-fit (r .0) u (r .2)
+  spelled-literal : (bs : List ℕ) (l : Literal) → Spells-literal points bs l → literal-fits t q l ≡ true
+  spelled-literal _ _ (G.is-so {w} {n} h) = lt-ltb n q (h .1 .0)
+  spelled-literal _ _ (G.is-not {w} {n} h) = lt-ltb n q (h .1 .0)
 
-  point-fit : (c : Class) (make : ℕ → Literal) (l : Literal) → ((n : ℕ) → n < p → literal-fits t p (make n) ≡ true) → and-then (point-of points c) (λ n. Ok (make n)) ≡ Ok l → literal-fits t p l ≡ true
-  point-fit c make l each h =
-      let r = then-ok (point-of points c) (λ n. Ok (make n)) l h in
-      subst (λ v. literal-fits t p v ≡ true) (same-ok (r .2)) (each (r .0) (point-below points c (r .0) (r .1)))
+  pub due-fit : (bs : List ℕ) (u : Due) → read-due bs ≡ Ok u → due-fits t q u ≡ true
+  due-fit bs u h = spelled-due bs u (due-spelled bs u h)
 
-  pub literal-fit : (bs : List ℕ) (l : Literal) → literal-of points bs ≡ Ok l → literal-fits t p l ≡ true
-  literal-fit bs l h =
-      elim (by-cases (past (codes "!") bs) (λ rest. and-then (point-of points (class-of rest)) (λ n. Ok (L.Not n))) (and-then (point-of points (class-of bs)) (λ n. Ok (L.Is n))) (Ok l) h) [
-        | inl (r, _, k) ↦ point-fit (class-of r) L.Not l (λ n. lt-ltb n p) k
-        | inr (_, k) ↦ point-fit (class-of bs) L.Is l (λ n. lt-ltb n p) k
-      ]
+  pub literal-fit : (bs : List ℕ) (l : Literal) → literal-of points bs ≡ Ok l → literal-fits t q l ≡ true
+  literal-fit bs l h = spelled-literal bs l (literal-spelled points bs l h)
 
-  shaped-fit : (bs : List ℕ) (l : Literal) → shaped-literal points bs ≡ Ok l → literal-fits t p l ≡ true
-  shaped-fit bs l h = let a = then-ok (literal-shape bs) (λ _. literal-of points bs) l h in literal-fit bs l (a .2)
-
+  -- with 64 tags or fewer
   module _ (few : t ≤ 64) where
-    parts-fit : (bs : List ℕ) (d : DutyPattern) → Duty-parts tags points bs d → pattern-fits t p d ≡ true
-    parts-fit bs _ (scanned _ u s _ (d, w, _, k, l)) = and-from _ _ (due-fit d u k) (set-fit tags few points w s l)
-    parts-fit bs _ (reached _ u l _ (d, w, _, k, q)) = and-from _ _ (due-fit d u k) (shaped-fit w l q)
-    parts-fit bs _ (held _ u l _ (d, w, _, k, q)) = and-from _ _ (due-fit d u k) (shaped-fit w l q)
+    spelled-duty : (bs : List ℕ) (d : DutyPattern) → Spells-duty tags points bs d → pattern-fits t q d ≡ true
+    spelled-duty _ _ (G.scan {d} {w} {u} {s} h k) = and-from _ _ (spelled-due d u h) (spelled-set tags few points w s k)
+    spelled-duty _ _ (G.reach {d} {w} {u} {l} h k) = and-from _ _ (spelled-due d u h) (spelled-literal w l k)
+    spelled-duty _ _ (G.hold {d} {w} {u} {l} h k) = and-from _ _ (spelled-due d u h) (spelled-literal w l k)
 
-    pub duty-fit : (bs : List ℕ) (d : DutyPattern) → duty-of tags points bs ≡ Ok d → pattern-fits t p d ≡ true
-    duty-fit bs d h = parts-fit bs d (duty-parts tags points bs d h)
+    spelled-event : (bs : List ℕ) (e : Event) → Spells-event tags points bs e → event-fits t q e ≡ true
+    spelled-event _ _ (G.of-tags {w} {s} h) = spelled-set tags few points w s h
+    spelled-event _ _ (G.when-met {w} {p} h) = spelled-duty w p h
+    spelled-event _ _ (G.when-failed {w} {p} h) = spelled-duty w p h
 
-    duty-within : {Y : Type 0} (fits : Y → Bool) (make : DutyPattern → Y) → ((d : DutyPattern) → fits (make d) ≡ pattern-fits t p d) → (bs : List ℕ) (y : Y) → and-then (duty-of tags points bs) (λ d. Ok (make d)) ≡ Ok y → fits y ≡ true
-    duty-within fits make each bs y h =
-        let a = then-ok (duty-of tags points bs) (λ d. Ok (make d)) y h in
-        subst (λ v. fits v ≡ true) (same-ok (a .2)) (each (a .0) ∙ duty-fit bs (a .0) (a .1))
+    spelled-statement : (bs : List ℕ) (s : Statement) → Spells-statement tags points bs s → statement-fits t q s ≡ true
+    spelled-statement _ _ (G.of-literal {w} {l} h) = spelled-literal w l h
+    spelled-statement _ _ (G.of-duty {w} {p} h) = spelled-duty w p h
+    spelled-statement _ _ (G.of-no-duty {w} {p} h) = spelled-duty w p h
 
-    tags-event : (bs : List ℕ) (e : Event) → and-then (read-set tags bs) (λ s. Ok (E.Tags s)) ≡ Ok e → event-fits t p e ≡ true
-    tags-event bs e h =
-        let a = then-ok (read-set tags bs) (λ s. Ok (E.Tags s)) e h in
-        subst (λ v. event-fits t p v ≡ true) (same-ok (a .2)) (set-fit tags few points bs (a .0) (a .1))
+    pub duty-fit : (bs : List ℕ) (d : DutyPattern) → duty-of tags points bs ≡ Ok d → pattern-fits t q d ≡ true
+    duty-fit bs d h = spelled-duty bs d (duty-spelled tags points bs d h)
 
-    abbrev by-failed : List ℕ → Result Event Cause
-    by-failed bs = by (past (codes "failed ") bs) (λ rest. and-then (duty-of tags points rest) (λ d. Ok (E.Failed d))) (and-then (read-set tags bs) (λ s. Ok (E.Tags s)))
+    pub event-fit : (bs : List ℕ) (e : Event) → event-of tags points bs ≡ Ok e → event-fits t q e ≡ true
+    event-fit bs e h = spelled-event bs e (event-spelled tags points bs e h)
 
-    failed-fit : (bs : List ℕ) (e : Event) → by-failed bs ≡ Ok e → event-fits t p e ≡ true
-    failed-fit bs e h =
-        elim (by-cases (past (codes "failed ") bs) (λ rest. and-then (duty-of tags points rest) (λ d. Ok (E.Failed d))) (and-then (read-set tags bs) (λ s. Ok (E.Tags s))) (Ok e) h) [
-          | inl (r, _, k) ↦ duty-within (event-fits t p) E.Failed (λ d. refl) r e k
-          | inr (_, k) ↦ tags-event bs e k
-        ]
-
-    pub event-fit : (bs : List ℕ) (e : Event) → event-of tags points bs ≡ Ok e → event-fits t p e ≡ true
-    event-fit bs e h =
-        elim (by-cases (past (codes "met ") bs) (λ rest. and-then (duty-of tags points rest) (λ d. Ok (E.Met d))) (by-failed bs) (Ok e) h) [
-          | inl (r, _, k) ↦ duty-within (event-fits t p) E.Met (λ d. refl) r e k
-          | inr (_, k) ↦ failed-fit bs e k
-        ]
-
-    words-fit : (bs : List ℕ) (ws : List (List ℕ)) (s : Statement) → by-words tags points bs ws ≡ Ok s → statement-fits t p s ≡ true
-    words-fit bs [] s h = not-ok h
-    words-fit bs (w ∷ []) s h =
-        let a = then-ok (literal-of points w) (λ l. Ok (S.Literal l)) s h in
-        subst (λ v. statement-fits t p v ≡ true) (same-ok (a .2)) (literal-fit w (a .0) (a .1))
-    words-fit bs (w ∷ v ∷ ws) s h = duty-within (statement-fits t p) S.Duty (λ d. refl) bs s h
-
-    pub statement-fit : (bs : List ℕ) (s : Statement) → statement-of tags points bs ≡ Ok s → statement-fits t p s ≡ true
-    statement-fit bs s h =
-        elim (by-cases (past (codes "no ") bs) (λ rest. and-then (duty-of tags points rest) (λ d. Ok (S.NoDuty d))) (by-words tags points bs (split 32 bs)) (Ok s) h) [
-          | inl (r, _, k) ↦ duty-within (statement-fits t p) S.NoDuty (λ d. refl) r s k
-          | inr (_, k) ↦ words-fit bs (split 32 bs) s k
-        ]
+    pub statement-fit : (bs : List ℕ) (s : Statement) → statement-of tags points bs ≡ Ok s → statement-fits t q s ≡ true
+    statement-fit bs s h = spelled-statement bs s (statement-spelled tags points bs s h)

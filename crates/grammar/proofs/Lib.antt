@@ -1,9 +1,11 @@
 pub mod DueSpelled
 pub mod DutySpelled
+pub mod EventSpelled
 pub mod Fits
 pub mod LiteralSpelled
 pub mod Numbers
 pub mod Pieces
 pub mod SetSpelled
+pub mod StatementSpelled
 pub mod Steps
 pub mod Told

@@ -1,16 +1,16 @@
 -- A literal is read as the grammar spells it. Assumes nothing.
-use mathlib.Core.Path.{_≡_, refl, sym, ap, subst, _∙_}
-use mathlib.Core.List.{List, [], _∷_, _++_}
+use mathlib.Core.Path.{_≡_, refl, sym, subst, _∙_}
+use mathlib.Core.List.{List, _∷_}
 use mathlib.Core.Logic.{inl, inr}
 use Prim.Native.Nat.{ℕ}
 use native.Mathlib.Omega.{arith}
 use lib.Chars.{codes}
-use Rattle.std.specs.declared.option.Option.the-variants.{Some, None}
-use Rattle.std.specs.declared.result.Result.the-variants.{Ok, Err}
+use Rattle.std.specs.declared.option.Option.the-variants.{None}
+use Rattle.std.specs.declared.result.Result.the-variants.{Ok}
 use Rattle.duties.specs.declared.duty.Literal.{Literal}
 use Rattle.duties.specs.declared.duty.Literal.the-variants as L
 use Rattle.fields.specs.Fields.{literal-of, literal-shape, one-name, point-of}
-use Rattle.fields.specs.Reading.{and-then, by}
+use Rattle.fields.specs.Reading.{and-then}
 use Rattle.names.specs.declared.name.Name.{Name}
 use Rattle.text.specs.Split.{past}
 use Rattle.text.specs.Tokens.{class-of}
@@ -26,16 +26,16 @@ module _ (points : List Name) where
   literal-spelled bs l h =
       elim (by-cases (past (codes "!") bs) (λ rest. and-then (point-of points (class-of rest)) (λ n. Ok (L.Not n))) (and-then (point-of points (class-of bs)) (λ n. Ok (L.Is n))) (Ok l) h) [
         | inl (r, e, k) ↦
-          let t = then-ok (point-of points (class-of r)) (λ n. Ok (L.Not n)) l k in
-          subst (λ b. Spells-literal points b l) (sym (past-is (codes "!") bs r e)) (subst (Spells-literal points (33 ∷ r)) (same-ok (t .2)) (G.is-not (point-numbered points r (t .0) (t .1))))
+            let t = then-ok (point-of points (class-of r)) (λ n. Ok (L.Not n)) l k in
+            subst (λ b. Spells-literal points b l) (sym (past-is (codes "!") bs r e)) (subst (Spells-literal points (33 ∷ r)) (same-ok (t .2)) (G.is-not (point-numbered points r (t .0) (t .1))))
         | inr (_, k) ↦
-          let t = then-ok (point-of points (class-of bs)) (λ n. Ok (L.Is n)) l k in
-          subst (Spells-literal points bs) (same-ok (t .2)) (G.is-so (point-numbered points bs (t .0) (t .1)))
+            let t = then-ok (point-of points (class-of bs)) (λ n. Ok (L.Is n)) l k in
+            subst (Spells-literal points bs) (same-ok (t .2)) (G.is-so (point-numbered points bs (t .0) (t .1)))
       ]
 
   -- a name does not begin with !
   no-mark : (w : List ℕ) (n : ℕ) → Numbered points w n → past (codes "!") w ≡ None
-  no-mark w n h = none-past (codes "!") w (λ r e. let q : Lacks 33 (33 ∷ r) = subst (Lacks 33) e (name-lacks 33 w refl (h .0)) in q .0 refl)
+  no-mark w n h = none-past 33 (codes "!") w (λ q. q .0 refl) (name-lacks 33 w refl (h .0))
 
   pub literal-read : (bs : List ℕ) (l : Literal) → Spells-literal points bs l → literal-of points bs ≡ Ok l
   literal-read _ _ (G.is-so {w} {n} h) = rw (no-mark w n h) (ok-then (λ n. Ok (L.Is n)) (numbered-point points w n h))

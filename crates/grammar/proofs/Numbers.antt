@@ -1,29 +1,32 @@
 -- The number of a name, by the names that are declared. Assumes nothing.
 use mathlib.Core.Path.{_≡_, refl, sym, ap, subst, _∙_}
-use mathlib.Core.Bool.{Bool, true, false}
-use mathlib.Core.List.{List, [], _∷_}
-use mathlib.Core.Logic.{_⊎_, inl, inr, _↔_}
-use Prim.Native.Nat.{ℕ, _<_}
-use native.Mathlib.Omega.{arith}
+use mathlib.Core.Bool.{true, false}
+use mathlib.Core.List.{List}
+use mathlib.Core.Logic.{inl, inr}
+use Prim.Native.Nat.{ℕ}
 use Rattle.std.proofs.shelf.Tests.{both-ways, and-parts, cases-order}
 use Rattle.std.specs.declared.option.Option.{Option}
 use Rattle.std.specs.declared.option.Option.the-variants.{Some, None}
-use Rattle.std.specs.declared.result.Result.the-variants.{Ok, Err}
-use Rattle.fields.specs.Fields.{declared-at, number-of, one-name, place-of, point-of}
+use Rattle.std.specs.declared.result.Result.the-variants.{Ok}
+use Rattle.fields.specs.Fields.{declared-at, one-name, place-of, point-of}
 use Rattle.names.specs.declared.name.Name.{Name}
 use Rattle.names.specs.Names.{name-before, name-of}
 use Rattle.names.proofs.NameBytes.{all-inner}
 use Rattle.names.proofs.NameLaws.{name-irreflexive, name-transitive, name-total}
 use Rattle.ordered.specs.Ascending.{same}
-use Rattle.ordered.specs.Finding.{Last-with, last-place}
+use Rattle.ordered.specs.Finding.{Last-with}
 use Rattle.ordered.proofs.Last.{last-with}
 use Rattle.ordered.proofs.Sets.{same-is, same-refl}
-use Rattle.text.specs.Spelling.{all, inner, is-name, name-like}
+use Rattle.text.specs.Spelling.{inner, is-name, name-like}
 use Rattle.text.specs.Tokens.{Class, name, number, key, other, class-of, key-of}
 use Rattle.grammar.specs.Grammar.{Numbered}
 use Rattle.grammar.proofs.Pieces.{Lacks, lacks-all}
-use Rattle.grammar.proofs.Steps.{not-ok, same-ok, declared-some}
+use Rattle.grammar.proofs.Steps.{not-ok, same-ok}
 use Rattle.grammar.proofs.Told.{is-named, names-told}
+
+declared-some : (o : Option ℕ) (n : ℕ) → declared-at o ≡ Ok n → o ≡ Some n
+declared-some (Some m) n h = ap Some (same-ok h)
+declared-some None n h = not-ok h
 
 -- there is one last row with a key
 module _ {X K : Type 0} (key : X → K) (rows : List X) (k : K) (x : X) where

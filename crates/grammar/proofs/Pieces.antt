@@ -2,7 +2,6 @@
 use mathlib.Core.Path.{_≡_, refl, sym, ap, subst, _∙_}
 use mathlib.Core.Bool.{Bool, true, false, cond, not}
 use mathlib.Core.List.{List, [], _∷_, _++_}
-use mathlib.Core.Logic.{_⊎_, inl, inr}
 use Prim.Native.Nat.{ℕ, _<_}
 use native.Mathlib.Omega.{arith}
 use lib.Dec.{eqb}
@@ -41,9 +40,13 @@ past-none : (p bs : List ℕ) (o : Option (List ℕ)) → past p bs ≡ o → ((
 past-none p bs (Some r) e h = absurd (h r (past-is p bs r e))
 past-none p bs None e h = refl
 
--- bytes do not begin with p
-pub none-past : (p bs : List ℕ) → ((r : List ℕ) → bs ≡ p ++ r → ⊥) → past p bs ≡ None
-none-past p bs h = past-none p bs (past p bs) refl h
+lacks-front : (s : ℕ) (p r : List ℕ) → Lacks s (p ++ r) → Lacks s p
+lacks-front s [] r h = tt
+lacks-front s (b ∷ p) r h = (h .0, lacks-front s p r (h .1))
+
+-- bytes without s do not begin with what has s
+pub none-past : (s : ℕ) (p bs : List ℕ) → (Lacks s p → ⊥) → Lacks s bs → past p bs ≡ None
+none-past s p bs has lacks = past-none p bs (past p bs) refl (λ r e. has (lacks-front s p r (subst (Lacks s) e lacks)))
 
 onto-append : (b : ℕ) (ps qs : List (List ℕ)) → 0 < length ps → onto b (ps ++ qs) ≡ onto b ps ++ qs
 onto-append b [] qs some = absurd (omega arith)
@@ -55,7 +58,7 @@ split-append s [] bs = cond-true _ _ _ (eq-eqb s s refl)
 split-append s (a ∷ cs) bs =
     rw (split-append s cs bs)
     (cond-both (eqb a s) ([] ∷ split s cs) (onto a (split s cs)) (λ l. cond (eqb a s) ([] ∷ (split s cs ++ split s bs)) (onto a (split s cs ++ split s bs)) ≡ l ++ split s bs)
-     (λ e. cond-true _ _ _ e) (λ e. cond-false _ _ _ e ∙ onto-append a (split s cs) (split s bs) (split-some s cs)))
+    (λ e. cond-true _ _ _ e) (λ e. cond-false _ _ _ e ∙ onto-append a (split s cs) (split s bs) (split-some s cs)))
 
 -- with no separator there is one piece
 pub split-one : (s : ℕ) (bs : List ℕ) → Lacks s bs → split s bs ≡ bs ∷ []

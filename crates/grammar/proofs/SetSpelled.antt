@@ -1,19 +1,16 @@
 -- Names joined by + are read as the grammar spells them. Assumes nothing.
-use mathlib.Core.Path.{_≡_, refl, sym, ap, subst, _∙_}
-use mathlib.Core.Bool.{true, false}
+use mathlib.Core.Path.{_≡_, refl, ap, subst, _∙_}
 use mathlib.Core.List.{List, [], _∷_, _++_, map}
 use Prim.Native.Nat.{ℕ, _<_}
 use native.Mathlib.Omega.{arith}
 use lib.ListN.{length}
 use Rattle.std.proofs.shelf.Elements.{all-append}
 use Rattle.std.proofs.shelf.Lists.{map-append}
-use Rattle.std.specs.declared.result.Result.the-variants.{Ok, Err}
+use Rattle.std.specs.declared.result.Result.the-variants.{Ok}
 use Rattle.duties.specs.declared.sets.TagSet.{TagSet}
 use Rattle.duties.specs.Sets.{adding}
-use Rattle.fields.specs.Fields.{named, one-name, point-of, read-set, tags-of}
-use Rattle.fields.specs.Reading.{and-then}
+use Rattle.fields.specs.Fields.{named, point-of, read-set, tags-of}
 use Rattle.names.specs.declared.name.Name.{Name}
-use Rattle.text.specs.Spelling.{inner}
 use Rattle.text.specs.Split.{split}
 use Rattle.text.specs.Tokens.{Class, class-of, parts}
 use Rattle.text.proofs.Splits.{split-some}

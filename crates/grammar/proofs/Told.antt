@@ -1,22 +1,21 @@
 -- What a piece is taken for, by its spelling. Assumes nothing.
-use mathlib.Core.Path.{_≡_, refl, sym, ap, subst, _∙_}
-use mathlib.Core.Bool.{Bool, true, false, cond, not, _&&_, _||_}
+use mathlib.Core.Path.{_≡_, refl, subst}
+use mathlib.Core.Bool.{true, false}
 use mathlib.Core.List.{List, [], _∷_}
-use mathlib.Core.Logic.{_⊎_, inl, inr}
-use Prim.Native.Nat.{ℕ, _<_, _≤_}
+use mathlib.Core.Logic.{inl, inr}
+use Prim.Native.Nat.{ℕ}
 use native.Mathlib.Omega.{arith}
 use lib.Chars.{codes}
-use lib.Dec.{eqb, leb}
+use lib.Dec.{leb}
 use Rattle.std.proofs.shelf.Equals.{sameBytes-decides}
-use Rattle.std.proofs.shelf.Tests.{and-from, and-parts, both-ways, cases-bool, leb-true, lt-leb, ne-eqb, not-from-false, not-true, or-parts}
+use Rattle.std.proofs.shelf.Tests.{and-from, and-parts, both-ways, cases-bool, leb-true, lt-leb, ne-eqb, not-from-false, not-true}
 use Rattle.std.proofs.shelf.Ways.{tells}
 use Rattle.std.specs.shelf.Text.{sameBytes}
 use Rattle.std.specs.declared.option.Option.{Option}
 use Rattle.std.specs.declared.option.Option.the-variants.{Some, None}
 use Rattle.text.specs.declared.token.Keyword.{Keyword}
-use Rattle.text.specs.declared.token.Keyword.the-variants.{Now, Then}
-use Rattle.text.specs.Spelling.{all, digit, inner, is-name, name-like, numeral, reserved, small}
-use Rattle.text.specs.Tokens.{Class, name, number, key, other, class-of, key-else, key-of, plain}
+use Rattle.text.specs.Spelling.{all, digit, name-like, numeral, reserved}
+use Rattle.text.specs.Tokens.{name, number, key, class-of, key-else, key-of}
 use Rattle.grammar.specs.Reads.{Names-are-told-by-spelling, Numbers-are-told-by-spelling}
 
 pub is-number : (o : Option Keyword) (bs n : List ℕ) → key-else o bs ≡ number n → (bs ≡ n) × (numeral bs ≡ true)
