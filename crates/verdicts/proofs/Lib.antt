@@ -1,0 +1,4 @@
+pub mod Bytes
+pub mod Conditions
+pub mod LineDeclared
+pub mod TextDeclared
