@@ -6,7 +6,6 @@ mod load;
 mod loader;
 mod refusal;
 
-
 pub use fault::LineFault;
 pub use fault::LineFaultEq;
 pub use fault::LineFaultPartialEq;

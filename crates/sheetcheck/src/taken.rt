@@ -175,12 +175,7 @@ fn put_order(page: &mut Page, sheet: &Sheet, order: Order) -> Result<(), AllocEr
     page.put(b".\n")
 }
 
-fn put_count(
-    page: &mut Page,
-    n: usize,
-    one: &[u8],
-    many: &[u8],
-) -> Result<(), AllocError> {
+fn put_count(page: &mut Page, n: usize, one: &[u8], many: &[u8]) -> Result<(), AllocError> {
     page.put_number(n)?;
     page.put(if n == 1 { one } else { many })
 }
@@ -206,7 +201,9 @@ pub fn tell_taken(page: &mut Page, sheet: &Sheet) -> Result<(), AllocError> {
         put_order(page, sheet, *order)?;
     }
     if orders > 0 {
-        page.put(b"A duty has to be done before the minute at which it is due. T is any one minute, the same throughout its order.\n")?;
+        page.put(
+            b"A duty has to be done before the minute at which it is due. T is any one minute, the same throughout its order.\n",
+        )?;
     }
     Ok(())
 }
