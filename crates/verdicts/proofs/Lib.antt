@@ -1,4 +1,5 @@
 pub mod Bytes
 pub mod Conditions
 pub mod LineDeclared
+pub mod RefusedFirst
 pub mod TextDeclared

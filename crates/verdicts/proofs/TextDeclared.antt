@@ -36,10 +36,10 @@ use Rattle.verdicts.proofs.LineDeclared.{cond-ok, lines-declared}
 abbrev pub parted : List (List ℕ) → List (List ℕ)
 parted ls = ls ++ [] ∷ []
 
-not-none : {X A : Type 0} {x : X} → _≡_ {A = Option X} (Some x) None → A
+pub not-none : {X A : Type 0} {x : X} → _≡_ {A = Option X} (Some x) None → A
 not-none h = absurd (let z : _≡_ {A = ℕ} 0 1 = cc in omega arith)
 
-passed-ok : (o : Option ℕ) (fault : ℕ → LoadFault) → passed o fault ≡ Ok tt → o ≡ None
+pub passed-ok : (o : Option ℕ) (fault : ℕ → LoadFault) → passed o fault ≡ Ok tt → o ≡ None
 passed-ok None fault h = refl
 passed-ok (Some k) fault h = not-ok h
 
@@ -47,7 +47,7 @@ stray-none : (b : Bool) (x : Option ℕ) (k : ℕ) → cond b x (Some k) ≡ Non
 stray-none true x k h = (refl, h)
 stray-none false x k h = not-none h
 
-stray-plain : (k : ℕ) (bs : List ℕ) → stray-line k bs ≡ None → all plain-byte bs ≡ true
+pub stray-plain : (k : ℕ) (bs : List ℕ) → stray-line k bs ≡ None → all plain-byte bs ≡ true
 stray-plain k [] h = refl
 stray-plain k (b ∷ bs) h =
     let p = stray-none (plain-byte b) (stray-line (cond (eqb b 10) (k + 1) k) bs) k h in
@@ -60,13 +60,13 @@ plain-stray k (b ∷ bs) h =
     cond-true (plain-byte b) _ _ (p .0) ∙ plain-stray (cond (eqb b 10) (k + 1) k) bs (p .1)
 
 -- the last part is empty
-finished : (k : ℕ) (ps : List (List ℕ)) → 0 < length ps → unfinished-line k ps ≡ None → (ls : List (List ℕ)) × (ps ≡ parted ls)
+pub finished : (k : ℕ) (ps : List (List ℕ)) → 0 < length ps → unfinished-line k ps ≡ None → (ls : List (List ℕ)) × (ps ≡ parted ls)
 finished k [] some h = absurd (omega arith)
 finished k ([] ∷ []) some h = ([], refl)
 finished k ((b ∷ bs) ∷ []) some h = not-none h
 finished k (p ∷ q ∷ ps) some h = let (ls, e) = finished (k + 1) (q ∷ ps) (omega arith) h in (p ∷ ls, ap (λ l. p ∷ l) e)
 
-parted-finished : (k : ℕ) (ls : List (List ℕ)) → unfinished-line k (parted ls) ≡ None
+pub parted-finished : (k : ℕ) (ls : List (List ℕ)) → unfinished-line k (parted ls) ≡ None
 parted-finished k [] = refl
 parted-finished k (l ∷ []) = refl
 parted-finished k (l ∷ m ∷ ls) = parted-finished (k + 1) (m ∷ ls)
@@ -75,7 +75,7 @@ after-ended : (v : List ℕ) (ls : List (List ℕ)) → after 10 v (parted ls) �
 after-ended v [] = refl
 after-ended v (l ∷ ls) = after-ended (v ++ 10 ∷ l) ls ∙ append-assoc v (10 ∷ l) (10 ∷ ended ls)
 
-joined-ended : (ls : List (List ℕ)) → joined 10 (parted ls) ≡ ended ls
+pub joined-ended : (ls : List (List ℕ)) → joined 10 (parted ls) ≡ ended ls
 joined-ended [] = refl
 joined-ended (l ∷ ls) = after-ended l ls
 
@@ -83,11 +83,11 @@ split-ended : (ls : List (List ℕ)) → All (Lacks 10) ls → split 10 (ended l
 split-ended [] h = refl
 split-ended (l ∷ ls) (h, hs) = rw (split-append 10 l (ended ls), split-one 10 l h, split-ended ls hs)
 
-lines-step : (l : List ℕ) (ls : List (List ℕ)) (k : ℕ) (t : Content) → lines-of (parted (l ∷ ls)) k t ≡ and-then (loaded (lined k (line-of t l))) (lines-of (parted ls) (k + 1))
+pub lines-step : (l : List ℕ) (ls : List (List ℕ)) (k : ℕ) (t : Content) → lines-of (parted (l ∷ ls)) k t ≡ and-then (loaded (lined k (line-of t l))) (lines-of (parted ls) (k + 1))
 lines-step l [] k t = refl
 lines-step l (m ∷ ls) k t = refl
 
-line-ok : (k : ℕ) (r : Result Content LineCause) (u : Content) → loaded (lined k r) ≡ Ok u → r ≡ Ok u
+pub line-ok : (k : ℕ) (r : Result Content LineCause) (u : Content) → loaded (lined k r) ≡ Ok u → r ≡ Ok u
 line-ok k (Ok v) u h = ap Ok (same-ok h)
 line-ok k (Err c) u h = not-ok h
 
@@ -117,10 +117,10 @@ pub declare-feedless : {t u : Content} {ls : List (List ℕ)} → Declare t ls u
 declare-feedless no-line = tt
 declare-feedless (and-line {t} {u} {v} {l} h hs) = (lacks-here 10 l (line-feedless h), declare-feedless hs)
 
-abbrev finished-text : List ℕ → Result Content LoadFault
+abbrev pub finished-text : List ℕ → Result Content LoadFault
 finished-text text = and-then (passed (unfinished-line 1 (split 10 text)) F.Unfinished) (λ _. lines-of (split 10 text) 1 blank)
 
-abbrev plain-text : List ℕ → Result Content LoadFault
+abbrev pub plain-text : List ℕ → Result Content LoadFault
 plain-text text = and-then (passed (stray-line 1 text) F.StrayByte) (λ _. finished-text text)
 
 text-declares : (text : List ℕ) (t : Content) → meaning text ≡ Ok t → Declares text t

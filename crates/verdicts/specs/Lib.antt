@@ -1,2 +1,3 @@
 pub mod Declares
+pub mod Refused
 pub mod Verdicts

@@ -8,6 +8,7 @@ use Rattle.sheets.specs.Sheets.{Content}
 use Rattle.loader.specs.declared.fault.LoadFault.{LoadFault}
 use Rattle.loader.specs.Texts.{meaning}
 use Rattle.verdicts.specs.Declares.{Declares}
+use Rattle.verdicts.specs.Refused.{Refused}
 
 abbrev pub A-text-is-taken-as-what-its-lines-declare : Type 0
 A-text-is-taken-as-what-its-lines-declare = (text : List ℕ) (t : Content) → (meaning text ≡ Ok t) ↔ Declares text t
@@ -16,3 +17,6 @@ abbrev pub No-text-has-two-answers : Type 0
 No-text-has-two-answers =
     ((text : List ℕ) (t u : Content) → Declares text t → Declares text u → t ≡ u)
     × ((text : List ℕ) (t : Content) (f : LoadFault) → Declares text t → meaning text ≡ Err f → ⊥)
+
+abbrev pub A-refusal-is-the-first-cause : Type 0
+A-refusal-is-the-first-cause = (text : List ℕ) (f : LoadFault) → (meaning text ≡ Err f) ↔ Refused text f

@@ -1,6 +1,6 @@
 // What loading promises, in the grammar's words.
 // Each function does nothing: its contract is a theorem about the definition that `load` answers by.
-ghost use Rattle.verdicts.specs.Verdicts.{A-text-is-taken-as-what-its-lines-declare, No-text-has-two-answers};
+ghost use Rattle.verdicts.specs.Verdicts.{A-refusal-is-the-first-cause, A-text-is-taken-as-what-its-lines-declare, No-text-has-two-answers};
 
 // A text is taken exactly where its lines declare a sheet, and then as that sheet: its tags, points and orders, in their order, and nothing else.
 pub fn a_text_is_taken_as_what_its_lines_declare() -> u8
@@ -12,6 +12,14 @@ pub fn a_text_is_taken_as_what_its_lines_declare() -> u8
 // No text declares two sheets, and none that declares a sheet is refused.
 pub fn no_text_has_two_answers() -> u8
     ensures { λ _. ⌜ No-text-has-two-answers ⌝ }
+{
+    0
+}
+
+// A text is refused by the first of its causes: too long; else the first byte that is not plain; else an end with no line feed; else the first line
+// that declares nothing beside the lines above it. Each has the number of its line.
+pub fn a_refusal_is_the_first_cause() -> u8
+    ensures { λ _. ⌜ A-refusal-is-the-first-cause ⌝ }
 {
     0
 }
