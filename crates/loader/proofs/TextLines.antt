@@ -15,9 +15,9 @@ use Rattle.fields.specs.Reading.{and-then}
 use Rattle.lines.specs.Lines.{line-of}
 use Rattle.sheets.specs.Sheets.{Content, blank}
 use Rattle.text.specs.Split.{split}
-use Rattle.loader.specs.declared.fault.LineFault.{LineFault}
-use Rattle.loader.specs.declared.fault.LoadFault.the-variants.{Line, StrayByte, Unfinished}
-use Rattle.loader.specs.Texts.{lined, lines-of, loaded, meaning, passed, plain-byte, stray-line, unfinished-line}
+use Rattle.verdicts.specs.declared.fault.LineFault.{LineFault}
+use Rattle.verdicts.specs.declared.fault.LoadFault.the-variants.{Line, StrayByte, Unfinished}
+use Rattle.verdicts.specs.Texts.{lined, lines-of, loaded, meaning, passed, plain-byte, stray-line, unfinished-line}
 use Rattle.text.proofs.Splits.{split-some}
 
 module _ (bs : List ℕ) (i k : ℕ) (e : stray-line 1 bs ≡ stray-line k (drop i bs)) where

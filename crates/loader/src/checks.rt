@@ -5,9 +5,9 @@ ghost use Prim.Native.Nat.{_+_, _≤_};
 ghost use lib.Dec.{eqb};
 ghost use lib.ListN.{length};
 ghost use Rattle.text.specs.Split.{split};
-ghost use Rattle.loader.specs.declared.fault.LoadFault.the-variants.{StrayByte as Stray, Unfinished as Unended};
-ghost use Rattle.loader.specs.Texts.{passed, plain-byte, stray-line, unfinished-line};
-use crate::fault::LoadFault;
+ghost use Rattle.verdicts.specs.declared.fault.LoadFault.the-variants.{StrayByte as Stray, Unfinished as Unended};
+ghost use Rattle.verdicts.specs.Texts.{passed, plain-byte, stray-line, unfinished-line};
+use verdicts::LoadFault;
 use text::cut;
 
 fn is_plain(b: u8) -> bool

@@ -6,10 +6,12 @@ ghost use Rattle.std.specs.Vec.{made};
 ghost use Rattle.std.specs.declared.result.Result.the-variants.{Err as Bad, Ok as Good};
 ghost use Rattle.sheets.specs.Filled.{sheet-content};
 ghost use Rattle.sheets.specs.Sheets.{blank, content, lawful};
-ghost use Rattle.loader.specs.Texts.{meaning};
+ghost use Rattle.verdicts.specs.Declares.{Declares};
+ghost use Rattle.verdicts.specs.Refused.{Refused};
+ghost use Rattle.verdicts.specs.Texts.{meaning};
 use crate::checks::check_bytes;
 use crate::checks::check_end;
-use crate::fault::LoadFault;
+use verdicts::LoadFault;
 use crate::lines_of::read_table;
 use crate::loader::Loader;
 use sheets::Sheet;
@@ -17,9 +19,9 @@ use sheets::Table;
 use std::alloc::AllocError;
 use std::alloc::Global;
 
-// What the text declares, built whole in the table.
+// What the text means, built whole in the table.
 fn build(table: &mut Table, text: &[u8]) -> Result<(), LoadFault>
-    ensures read { λ r. ⌜ Cases r (λ _. (meaning (now (text .entry)) ≡ Good (content (now (table .exit)))) × (lawful (content (now (table .exit))) ≡ true)) (λ e. meaning (now (text .entry)) ≡ Bad e) ⌝ }
+    ensures { λ r. ⌜ Cases r (λ _. (meaning (now (text .entry)) ≡ Good (content (now (table .exit)))) × (lawful (content (now (table .exit))) ≡ true)) (λ e. meaning (now (text .entry)) ≡ Bad e) ⌝ }
 {
     if text.len() > 32768 {
         return Err(LoadFault::TooLong);
@@ -38,12 +40,19 @@ impl Loader {
         Ok(Loader { table })
     }
 
-    // The sheet that the text declares goes into the caller's sheet; where the text is refused, that stays as it was.
-    pub fn load(&mut self, text: &[u8], sheet: &mut Sheet) -> Result<(), LoadFault>
+    // The table is built whole before the sheet is touched.
+    fn fill(&mut self, text: &[u8], sheet: &mut Sheet) -> Result<(), LoadFault>
         ensures { λ r. ⌜ Cases r (λ _. meaning (now (text .entry)) ≡ Good (sheet-content (now (sheet .exit)))) (λ e. (meaning (now (text .entry)) ≡ Bad e) × (now (sheet .exit) ≡ now (sheet .entry))) ⌝ }
     {
         build(&mut self.table, text)?;
         sheet.exchange(&mut self.table);
         Ok(())
+    }
+
+    // The sheet that the text declares goes into the caller's sheet; where the text is refused, that stays as it was.
+    pub fn load(&mut self, text: &[u8], sheet: &mut Sheet) -> Result<(), LoadFault>
+        ensures { λ r. ⌜ Cases r (λ _. Declares (now (text .entry)) (sheet-content (now (sheet .exit)))) (λ e. Refused (now (text .entry)) e × (now (sheet .exit) ≡ now (sheet .entry))) ⌝ }
+    {
+        self.fill(text, sheet)
     }
 }

@@ -2,7 +2,7 @@
 use crate::page::Page;
 use fields::Cause;
 use lines::LineCause;
-use loader::LoadFault;
+use verdicts::LoadFault;
 use std::alloc::AllocError;
 use text::cut;
 

@@ -1,5 +1,6 @@
 pub mod Bytes
 pub mod Conditions
 pub mod LineDeclared
+pub mod OneAnswer
 pub mod RefusedFirst
 pub mod TextDeclared

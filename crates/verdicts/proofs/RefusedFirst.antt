@@ -23,9 +23,9 @@ use Rattle.text.specs.Split.{onto, split}
 use Rattle.text.proofs.Splits.{split-some}
 use Rattle.lines.specs.declared.fault.LineCause.{LineCause}
 use Rattle.lines.specs.Lines.{line-of}
-use Rattle.loader.specs.declared.fault.LoadFault.{LoadFault}
-use Rattle.loader.specs.declared.fault.LoadFault.the-variants as F
-use Rattle.loader.specs.Texts.{lined, lines-of, loaded, meaning, passed, plain-byte, stray-line, unfinished-line}
+use Rattle.verdicts.specs.declared.fault.LoadFault.{LoadFault}
+use Rattle.verdicts.specs.declared.fault.LoadFault.the-variants as F
+use Rattle.verdicts.specs.Texts.{lined, lines-of, loaded, meaning, passed, plain-byte, stray-line, unfinished-line}
 use Rattle.grammar.proofs.Pieces.{Lacks, joined, joined-split, split-append, split-one}
 use Rattle.grammar.proofs.Steps.{not-ok, ok-then}
 use Rattle.verdicts.specs.Declares.{Declare, no-line, and-line, ended}

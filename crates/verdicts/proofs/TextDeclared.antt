@@ -22,13 +22,13 @@ use Rattle.text.specs.Split.{split}
 use Rattle.text.proofs.Splits.{split-some}
 use Rattle.lines.specs.declared.fault.LineCause.{LineCause}
 use Rattle.lines.specs.Lines.{line-of}
-use Rattle.loader.specs.declared.fault.LoadFault.{LoadFault}
-use Rattle.loader.specs.declared.fault.LoadFault.the-variants as F
-use Rattle.loader.specs.Texts.{lined, lines-of, loaded, meaning, passed, plain-byte, stray-line, unfinished-line}
+use Rattle.verdicts.specs.declared.fault.LoadFault.{LoadFault}
+use Rattle.verdicts.specs.declared.fault.LoadFault.the-variants as F
+use Rattle.verdicts.specs.Texts.{lined, lines-of, loaded, meaning, passed, plain-byte, stray-line, unfinished-line}
 use Rattle.grammar.proofs.Pieces.{Lacks, after, joined, joined-split, lacks-here, split-append, split-one}
 use Rattle.grammar.proofs.Steps.{not-ok, ok-then, same-ok, then-ok}
 use Rattle.verdicts.specs.Declares.{Declare, Declares, Declares-line, Spells-each, a-tag, a-point, an-order, no-field, and-field, no-line, and-line, ended, tabbed}
-use Rattle.verdicts.specs.Verdicts.{A-text-is-taken-as-what-its-lines-declare, No-text-has-two-answers}
+use Rattle.verdicts.specs.Verdicts.{A-text-is-taken-as-what-its-lines-declare}
 use Rattle.verdicts.proofs.Bytes.{all-both, event-prints, name-prints, no-feed, one-line, statement-prints}
 use Rattle.verdicts.proofs.LineDeclared.{cond-ok, lines-declared}
 
@@ -144,9 +144,3 @@ text-taken text t d =
 
 pub texts-declared : A-text-is-taken-as-what-its-lines-declare
 texts-declared text t = (text-declares text t, text-taken text t)
-
-pub one-answer : No-text-has-two-answers
-one-answer = (
-  (λ text t u h k. same-ok (sym (text-taken text t h) ∙ text-taken text u k)),
-  (λ text t f h k. not-ok (sym k ∙ text-taken text t h)),
-)

@@ -17,7 +17,7 @@ use Rattle.sheets.specs.Sheets.{Content, blank, with-order, with-point, with-ta
 use Rattle.text.specs.Spelling.{all, is-name}
 use Rattle.lines.specs.Lines.{declared}
 use Rattle.grammar.specs.Grammar.{Spells-event, Spells-statement}
-use Rattle.loader.specs.Texts.{plain-byte}
+use Rattle.verdicts.specs.Texts.{plain-byte}
 
 -- lines, each with its line feed
 abbrev pub ended : List (List ℕ) → List ℕ

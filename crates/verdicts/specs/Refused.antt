@@ -8,9 +8,9 @@ use lib.ListN.{length}
 use Rattle.std.specs.declared.result.Result.the-variants.{Err}
 use Rattle.lines.specs.declared.fault.LineCause.{LineCause}
 use Rattle.lines.specs.Lines.{line-of}
-use Rattle.loader.specs.declared.fault.LoadFault.{LoadFault}
-use Rattle.loader.specs.declared.fault.LoadFault.the-variants as F
-use Rattle.loader.specs.Texts.{plain-byte}
+use Rattle.verdicts.specs.declared.fault.LoadFault.{LoadFault}
+use Rattle.verdicts.specs.declared.fault.LoadFault.the-variants as F
+use Rattle.verdicts.specs.Texts.{plain-byte}
 use Rattle.sheets.specs.Sheets.{Content, blank}
 use Rattle.text.specs.Spelling.{all}
 use Rattle.verdicts.specs.Declares.{Declare, ended}

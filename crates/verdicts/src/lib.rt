@@ -1,25 +1,15 @@
-// What loading promises, in the grammar's words.
-// Each function does nothing: its contract is a theorem about the definition that `load` answers by.
-ghost use Rattle.verdicts.specs.Verdicts.{A-refusal-is-the-first-cause, A-text-is-taken-as-what-its-lines-declare, No-text-has-two-answers};
+// What a text of orders comes to: the sheet that its lines declare, or a refusal, and that it is one of these and never both.
+mod fault;
+mod refusal;
+mod stands;
 
-// A text is taken exactly where its lines declare a sheet, and then as that sheet: its tags, points and orders, in their order, and nothing else.
-pub fn a_text_is_taken_as_what_its_lines_declare() -> u8
-    ensures { λ _. ⌜ A-text-is-taken-as-what-its-lines-declare ⌝ }
-{
-    0
-}
-
-// No text declares two sheets, and none that declares a sheet is refused.
-pub fn no_text_has_two_answers() -> u8
-    ensures { λ _. ⌜ No-text-has-two-answers ⌝ }
-{
-    0
-}
-
-// A text is refused by the first of its causes: too long; else the first byte that is not plain; else an end with no line feed; else the first line
-// that declares nothing beside the lines above it. Each has the number of its line.
-pub fn a_refusal_is_the_first_cause() -> u8
-    ensures { λ _. ⌜ A-refusal-is-the-first-cause ⌝ }
-{
-    0
-}
+pub use fault::LineFault;
+pub use fault::LineFaultEq;
+pub use fault::LineFaultPartialEq;
+pub use fault::LoadFault;
+pub use fault::LoadFaultEq;
+pub use fault::LoadFaultPartialEq;
+pub use fault::LoadFromLine;
+pub use stands::a_refusal_is_the_first_cause;
+pub use stands::a_text_is_taken_as_what_its_lines_declare;
+pub use stands::every_text_has_one_answer;

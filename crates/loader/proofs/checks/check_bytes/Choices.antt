@@ -1,7 +1,7 @@
 use Prim.Native.Nat.{_+_, _≤_}
 use mathlib.Core.Path.{_≡_}
 use lib.ListN.{drop}
-use Rattle.loader.specs.Texts.{stray-line}
+use Rattle.verdicts.specs.Texts.{stray-line}
 use Rattle.loader.proofs.checks.check_bytes.Given as given
 
 abbrev pub Inv-loop-b : given.InvT-loop-b

@@ -1,7 +1,7 @@
 use Prim.Native.Nat.{_+_, _≤_}
 use mathlib.Core.Path.{_≡_}
 use lib.ListN.{length}
-use Rattle.loader.specs.Texts.{unfinished-line}
+use Rattle.verdicts.specs.Texts.{unfinished-line}
 use Rattle.text.specs.Split.{split}
 use Rattle.loader.proofs.checks.check_end.Given as given
 

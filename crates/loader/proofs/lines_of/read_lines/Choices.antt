@@ -5,7 +5,7 @@ use lib.ListN.{length}
 use Rattle.lines.specs.Reads.{Indexes}
 use Rattle.sheets.specs.Sheets.{content, lawful}
 use Rattle.text.specs.Split.{split}
-use Rattle.loader.specs.Texts.{lines-of}
+use Rattle.verdicts.specs.Texts.{lines-of}
 use Rattle.loader.proofs.lines_of.read_lines.Given as given
 
 abbrev pub Inv-loop-after : given.InvT-loop-after

@@ -4,8 +4,8 @@ use Rattle.fields.specs.declared.fault.Cause.{Cause}
 use Rattle.fields.specs.declared.fault.Cause.the-variants as W
 use Rattle.lines.specs.declared.fault.LineCause.{LineCause}
 use Rattle.lines.specs.declared.fault.LineCause.the-variants as C
-use Rattle.loader.specs.declared.fault.LoadFault.{LoadFault}
-use Rattle.loader.specs.declared.fault.LoadFault.the-variants as F
+use Rattle.verdicts.specs.declared.fault.LoadFault.{LoadFault}
+use Rattle.verdicts.specs.declared.fault.LoadFault.the-variants as F
 
 abbrev pub word-number : Cause → ℕ
 word-number W.Shape = 8

@@ -13,9 +13,9 @@ use Rattle.lines.specs.declared.fault.LineCause.{LineCause}
 use Rattle.lines.specs.Lines.{line-of}
 use Rattle.sheets.specs.Sheets.{Content, blank}
 use Rattle.text.specs.Split.{split}
-use Rattle.loader.specs.declared.fault.LineFault.{LineFault}
-use Rattle.loader.specs.declared.fault.LoadFault.{LoadFault}
-use Rattle.loader.specs.declared.fault.LoadFault.the-variants as F
+use Rattle.verdicts.specs.declared.fault.LineFault.{LineFault}
+use Rattle.verdicts.specs.declared.fault.LoadFault.{LoadFault}
+use Rattle.verdicts.specs.declared.fault.LoadFault.the-variants as F
 
 -- a line feed, a tab, or a byte that prints
 abbrev pub plain-byte : ℕ → Bool

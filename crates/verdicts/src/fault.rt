@@ -1,6 +1,6 @@
 // Why a text is refused.
 ghost use mathlib.Core.Path.{_≡_};
-ghost use Rattle.loader.specs.declared.fault.LoadFault.the-variants.{Line as InLine};
+ghost use Rattle.verdicts.specs.declared.fault.LoadFault.the-variants.{Line as InLine};
 use lines::LineCause;
 use lines::LineCauseEq;
 use lines::LineCausePartialEq;

@@ -1,6 +1,6 @@
 // A refusal as numbers: its own, its line and its field.
 ghost use mathlib.Core.Path.{_≡_};
-ghost use Rattle.loader.specs.Refusals.{line-refusal, refusal};
+ghost use Rattle.verdicts.specs.Refusals.{line-refusal, refusal};
 use crate::fault::LoadFault;
 use fields::Cause;
 use lines::LineCause;
