@@ -7,8 +7,8 @@ ghost use lib.ListN.{length};
 ghost use Rattle.text.specs.Split.{split};
 ghost use Rattle.verdicts.specs.declared.fault.LoadFault.the-variants.{StrayByte as Stray, Unfinished as Unended};
 ghost use Rattle.verdicts.specs.Texts.{passed, plain-byte, stray-line, unfinished-line};
-use verdicts::LoadFault;
 use text::cut;
+use verdicts::LoadFault;
 
 fn is_plain(b: u8) -> bool
     ensures { λ r. ⌜ r ≡ plain-byte b ⌝ }

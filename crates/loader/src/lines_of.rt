@@ -10,15 +10,15 @@ ghost use Rattle.lines.specs.Reads.{Indexes};
 ghost use Rattle.sheets.specs.Sheets.{blank, content, lawful};
 ghost use Rattle.text.specs.Split.{split};
 ghost use Rattle.verdicts.specs.Texts.{lined, lines-of};
-use verdicts::LineFault;
-use verdicts::LoadFault;
-use verdicts::LoadFromLine;
 use lines::read_record;
 use names::Name;
 use names::NameOrder;
 use ordered::OrderedRows;
 use sheets::Table;
 use text::cut;
+use verdicts::LineFault;
+use verdicts::LoadFault;
+use verdicts::LoadFromLine;
 
 // One line; its fault is made with its number.
 fn read_line(

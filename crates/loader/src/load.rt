@@ -11,13 +11,13 @@ ghost use Rattle.verdicts.specs.Refused.{Refused};
 ghost use Rattle.verdicts.specs.Texts.{meaning};
 use crate::checks::check_bytes;
 use crate::checks::check_end;
-use verdicts::LoadFault;
 use crate::lines_of::read_table;
 use crate::loader::Loader;
 use sheets::Sheet;
 use sheets::Table;
 use std::alloc::AllocError;
 use std::alloc::Global;
+use verdicts::LoadFault;
 
 // What the text means, built whole in the table.
 fn build(table: &mut Table, text: &[u8]) -> Result<(), LoadFault>

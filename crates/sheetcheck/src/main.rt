@@ -19,20 +19,30 @@ use taken::tell_taken;
 // One byte more than a sheet may have is enough to refuse it by.
 const ENOUGH: u64 = 32769;
 
-fn read_input(rt: &LibcRuntime) -> io::Result<Vec<u8>> {
+// The bytes of the file, or why it cannot be read.
+fn read_file(rt: &LibcRuntime, path: &str) -> io::Result<Vec<u8>> {
     let mut bytes = Vec::new(rt.alloc());
+    let file = File::open(rt, path)?;
+    let _ = file.take(ENOUGH).read_to_end(&mut bytes)?;
+    Ok(bytes)
+}
+
+fn read_input(rt: &LibcRuntime) -> io::Result<Vec<u8>> {
     let mut args = env::args(rt)?;
     let _ = args.next();
-    match args.next() {
-        Some(path) => {
-            let file = File::open(rt, path.as_str())?;
-            let _ = file.take(ENOUGH).read_to_end(&mut bytes)?;
-        }
-        None => {
-            let _ = rt.stdin().take(ENOUGH).read_to_end(&mut bytes)?;
+    let Some(path) = args.next() else {
+        let mut bytes = Vec::new(rt.alloc());
+        let _ = rt.stdin().take(ENOUGH).read_to_end(&mut bytes)?;
+        return Ok(bytes);
+    };
+    match read_file(rt, path.as_str()) {
+        Ok(bytes) => Ok(bytes),
+        Err(e) => {
+            let name = path.as_str();
+            eprintln!(rt, "sheetcheck: {name} cannot be read: {e}")?;
+            Err(e)
         }
     }
-    Ok(bytes)
 }
 
 fn run(rt: &LibcRuntime) -> Result<(), AnyError> {
@@ -50,5 +60,5 @@ fn run(rt: &LibcRuntime) -> Result<(), AnyError> {
 }
 
 fn main(rt: LibcRuntime) -> Result<(), AnyError> {
-    rt.report(run(&rt))
+    run(&rt)
 }

@@ -6,6 +6,8 @@ use std::alloc::Global;
 pub struct Page {
     heap: Global,
     bytes: Vec<u8>,
+    // Whether T stands on it, which then has to be explained.
+    pub has_t: bool,
 }
 
 impl Page {
@@ -13,6 +15,7 @@ impl Page {
         Page {
             heap,
             bytes: Vec::new(heap),
+            has_t: false,
         }
     }
 

@@ -2,9 +2,9 @@
 use crate::page::Page;
 use fields::Cause;
 use lines::LineCause;
-use verdicts::LoadFault;
 use std::alloc::AllocError;
 use text::cut;
+use verdicts::LoadFault;
 
 fn line_sentence(cause: LineCause) -> &'static [u8] {
     match cause {

@@ -91,8 +91,12 @@ fn put_due(page: &mut Page, due: Due) -> Result<(), AllocError> {
             page.put(b"due ")?;
             put_minutes(page, added, b" from now")
         }
-        Due::Then(0) => page.put(b"due at T"),
+        Due::Then(0) => {
+            page.has_t = true;
+            page.put(b"due at T")
+        }
         Due::Then(added) => {
+            page.has_t = true;
             page.put(b"due ")?;
             put_minutes(page, added, b" after T")
         }
@@ -201,9 +205,10 @@ pub fn tell_taken(page: &mut Page, sheet: &Sheet) -> Result<(), AllocError> {
         put_order(page, sheet, *order)?;
     }
     if orders > 0 {
-        page.put(
-            b"A duty has to be done before the minute at which it is due. T is any one minute, the same throughout its order.\n",
-        )?;
+        page.put(b"A duty has to be done before the minute at which it is due.\n")?;
+    }
+    if page.has_t {
+        page.put(b"T is any one minute, the same throughout its order.\n")?;
     }
     Ok(())
 }
