@@ -1,16 +1,14 @@
 use crate::sets::TagSet;
-use crate::sets::TagSetEq;
-use crate::sets::TagSetPartialEq;
 
 // A point, by its number, that holds, or that does not.
-#[derive(Clone, Copy, PartialEq, Eq)]
+#[derive(Clone, Copy)]
 pub enum Literal {
     Is(u8),
     Not(u8),
 }
 
 // What a duty asks for before its due minute.
-#[derive(Clone, Copy, PartialEq, Eq)]
+#[derive(Clone, Copy)]
 pub enum Task {
     // That the tags are all read in one step.
     Scan(TagSet),
@@ -21,7 +19,7 @@ pub enum Task {
 }
 
 // A duty: what a guard owes, and the minute that it is due at.
-#[derive(Clone, Copy, PartialEq, Eq)]
+#[derive(Clone, Copy)]
 pub struct Duty {
     pub due: u32,
     pub task: Task,

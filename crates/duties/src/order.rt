@@ -1,15 +1,9 @@
 use crate::duty::Literal;
-use crate::duty::LiteralEq;
-use crate::duty::LiteralPartialEq;
 use crate::duty::Task;
-use crate::duty::TaskEq;
-use crate::duty::TaskPartialEq;
 use crate::sets::TagSet;
-use crate::sets::TagSetEq;
-use crate::sets::TagSetPartialEq;
 
 // A due in an order. A step's own minute is `now`; T is any one minute, the same throughout the order.
-#[derive(Clone, Copy, PartialEq, Eq)]
+#[derive(Clone, Copy)]
 pub enum Due {
     // This minute.
     At(u32),
@@ -20,14 +14,14 @@ pub enum Due {
 }
 
 // A duty in an order: it is a duty once now and T are known.
-#[derive(Clone, Copy, PartialEq, Eq)]
+#[derive(Clone, Copy)]
 pub struct DutyPattern {
     pub due: Due,
     pub task: Task,
 }
 
 // What an order waits for.
-#[derive(Clone, Copy, PartialEq, Eq)]
+#[derive(Clone, Copy)]
 pub enum Event {
     // A read of all these tags.
     Tags(TagSet),
@@ -37,7 +31,7 @@ pub enum Event {
 }
 
 // What an order brings about (its effect) or asks of the state before it (a condition): a literal, a duty, or that there is no such duty.
-#[derive(Clone, Copy, PartialEq, Eq)]
+#[derive(Clone, Copy)]
 pub enum Statement {
     Literal(Literal),
     Duty(DutyPattern),
@@ -45,7 +39,7 @@ pub enum Statement {
 }
 
 // An order: at its event, if its conditions hold, its effect comes about. The conditions fill the places from the first on.
-#[derive(Clone, Copy, PartialEq, Eq)]
+#[derive(Clone, Copy)]
 pub struct Order {
     pub event: Event,
     pub effect: Statement,

@@ -1,9 +1,7 @@
 use crate::duty::Duty;
-use crate::duty::DutyEq;
-use crate::duty::DutyPartialEq;
 
 // What became of a duty.
-#[derive(Clone, Copy, PartialEq, Eq)]
+#[derive(Clone, Copy)]
 pub enum Mark {
     Opened,
     Met,
@@ -12,7 +10,7 @@ pub enum Mark {
 }
 
 // A row of the slate, which is the journal of a watch: at this minute the duty was opened or closed so.
-#[derive(Clone, Copy, PartialEq, Eq)]
+#[derive(Clone, Copy)]
 pub struct Row {
     pub minute: u32,
     pub mark: Mark,

@@ -6,11 +6,11 @@ ghost use lib.Bits.{bitOr};
 ghost use Rattle.duties.specs.Sets.{Has, adding, has};
 
 // Some of the tags.
-#[derive(Clone, Copy, PartialEq, Eq)]
+#[derive(Clone, Copy)]
 pub struct TagSet(pub u64);
 
 // Some of the points: those that hold.
-#[derive(Clone, Copy, PartialEq, Eq)]
+#[derive(Clone, Copy)]
 pub struct PointSet(pub u64);
 
 // The bit of a word at a place.

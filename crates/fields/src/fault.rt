@@ -2,7 +2,7 @@
 ghost use mathlib.Core.Path.{_≡_};
 ghost use Rattle.fields.specs.declared.fault.Cause.the-variants.{Shape as NoShape};
 
-#[derive(Clone, Copy, PartialEq, Eq)]
+#[derive(Clone, Copy)]
 pub enum Cause {
     // The field has not its shape, or a name in it is ill-formed or reserved.
     Shape,
@@ -13,7 +13,7 @@ pub enum Cause {
 }
 
 // A word's fault, made with the field that the word stands in, counted from 1.
-#[derive(Clone, Copy, PartialEq, Eq)]
+#[derive(Clone, Copy)]
 pub struct WordFault {
     pub field: usize,
     pub cause: Cause,

@@ -12,8 +12,4 @@ pub use event::read_event;
 pub use event::read_statement;
 pub use event::read_tags;
 pub use fault::Cause;
-pub use fault::CauseEq;
-pub use fault::CausePartialEq;
 pub use fault::WordFault;
-pub use fault::WordFaultEq;
-pub use fault::WordFaultPartialEq;

@@ -2,10 +2,8 @@
 ghost use mathlib.Core.Path.{_≡_};
 ghost use Rattle.lines.specs.declared.fault.LineCause.the-variants.{Word as InWord};
 use fields::WordFault;
-use fields::WordFaultEq;
-use fields::WordFaultPartialEq;
 
-#[derive(Clone, Copy, PartialEq, Eq)]
+#[derive(Clone, Copy)]
 pub enum LineCause {
     // An unknown first field, or a wrong number of fields.
     Fields,

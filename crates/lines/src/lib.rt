@@ -7,7 +7,5 @@ mod order_line;
 mod orders;
 
 pub use fault::LineCause;
-pub use fault::LineCauseEq;
-pub use fault::LineCausePartialEq;
 pub use fault::LineFromWord;
 pub use line::read_record;

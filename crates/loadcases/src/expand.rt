@@ -15,7 +15,7 @@ enum At {
 }
 
 #[derive(Drop)]
-pub struct Expander {
+pub(crate) struct Expander {
     heap: Global,
     text: Vec<u8>,
     piece: Vec<u8>,
@@ -33,7 +33,7 @@ fn hex(digit: u8) -> u8 {
 }
 
 impl Expander {
-    pub fn expand(heap: Global, bytes: &[u8]) -> Result<Vec<u8>, AllocError> {
+    pub(crate) fn expand(heap: Global, bytes: &[u8]) -> Result<Vec<u8>, AllocError> {
         let mut all = Expander {
             heap,
             text: Vec::new(heap),

@@ -3,7 +3,7 @@ use std::alloc::AllocError;
 use std::alloc::Global;
 
 #[derive(Drop)]
-pub struct Page {
+pub(crate) struct Page {
     heap: Global,
     bytes: Vec<u8>,
     // Whether T stands on it, which then has to be explained.
@@ -11,7 +11,7 @@ pub struct Page {
 }
 
 impl Page {
-    pub fn new(heap: Global) -> Page {
+    pub(crate) fn new(heap: Global) -> Page {
         Page {
             heap,
             bytes: Vec::new(heap),
@@ -19,21 +19,21 @@ impl Page {
         }
     }
 
-    pub fn bytes(&self) -> &[u8] {
+    pub(crate) fn bytes(&self) -> &[u8] {
         self.bytes.as_slice()
     }
 
-    pub fn put(&mut self, bytes: &[u8]) -> Result<(), AllocError> {
+    pub(crate) fn put(&mut self, bytes: &[u8]) -> Result<(), AllocError> {
         self.bytes.extend_from_slice(bytes)
     }
 
-    pub fn put_number(&mut self, n: usize) -> Result<(), AllocError> {
+    pub(crate) fn put_number(&mut self, n: usize) -> Result<(), AllocError> {
         let digits = format!(self.heap, "{n}")?;
         self.bytes.extend_from_slice(digits.as_bytes())
     }
 
     // A byte as it prints; a tab, and a byte that does not print, as an escape. Answers how many columns it takes.
-    pub fn put_shown(&mut self, byte: u8) -> Result<usize, AllocError> {
+    pub(crate) fn put_shown(&mut self, byte: u8) -> Result<usize, AllocError> {
         if byte == b'\t' {
             self.put(b"\\t")?;
             return Ok(2);

@@ -86,7 +86,11 @@ fn put_line(page: &mut Page, line: &[u8], field: usize) -> Result<(), AllocError
 }
 
 // The first line, then what is wrong and where.
-pub fn tell_refused(page: &mut Page, text: &[u8], fault: LoadFault) -> Result<(), AllocError> {
+pub(crate) fn tell_refused(
+    page: &mut Page,
+    text: &[u8],
+    fault: LoadFault,
+) -> Result<(), AllocError> {
     page.put(b"refused\t")?;
     page.put_number(fault.number() as usize)?;
     page.put(b"\t")?;

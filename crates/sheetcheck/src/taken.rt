@@ -185,7 +185,7 @@ fn put_count(page: &mut Page, n: usize, one: &[u8], many: &[u8]) -> Result<(), A
 }
 
 // The first line, then the orders. A number in front of each is the one that the order has.
-pub fn tell_taken(page: &mut Page, sheet: &Sheet) -> Result<(), AllocError> {
+pub(crate) fn tell_taken(page: &mut Page, sheet: &Sheet) -> Result<(), AllocError> {
     let tags = sheet.tags().len();
     let points = sheet.points().len();
     let orders = sheet.orders().len();

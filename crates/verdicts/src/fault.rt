@@ -2,17 +2,15 @@
 ghost use mathlib.Core.Path.{_≡_};
 ghost use Rattle.verdicts.specs.declared.fault.LoadFault.the-variants.{Line as InLine};
 use lines::LineCause;
-use lines::LineCauseEq;
-use lines::LineCausePartialEq;
 
 // A line's fault, made with the line, counted from 1.
-#[derive(Clone, Copy, PartialEq, Eq)]
+#[derive(Clone, Copy)]
 pub struct LineFault {
     pub line: usize,
     pub cause: LineCause,
 }
 
-#[derive(Clone, Copy, PartialEq, Eq)]
+#[derive(Clone, Copy)]
 pub enum LoadFault {
     // The text is over 32,768 bytes.
     TooLong,

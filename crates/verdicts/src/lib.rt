@@ -4,11 +4,7 @@ mod refusal;
 mod stands;
 
 pub use fault::LineFault;
-pub use fault::LineFaultEq;
-pub use fault::LineFaultPartialEq;
 pub use fault::LoadFault;
-pub use fault::LoadFaultEq;
-pub use fault::LoadFaultPartialEq;
 pub use fault::LoadFromLine;
 pub use stands::a_refusal_is_the_first_cause;
 pub use stands::a_text_is_taken_as_what_its_lines_declare;
