@@ -66,7 +66,7 @@ fn read_on_literal(field: usize, points: &[Name], bytes: &[u8]) -> Result<(Due, 
     Ok((due, literal))
 }
 
-pub fn read_duty(
+pub(crate) fn read_duty(
     field: usize,
     tags: &[Name],
     points: &[Name],

@@ -22,7 +22,7 @@ use names::Name;
 use text::cut;
 
 // A set of tags: names joined by `+`.
-pub fn read_tags(field: usize, tags: &[Name], bytes: &[u8]) -> Result<TagSet, WordFault>
+pub(crate) fn read_tags(field: usize, tags: &[Name], bytes: &[u8]) -> Result<TagSet, WordFault>
     requires { ⌜ length (now tags) ≤ 64 ⌝ }
     ensures { λ r. ⌜ r ≡ placed field (read-set (now (tags .entry)) (now (bytes .entry))) ⌝ }
 {

@@ -7,9 +7,7 @@ mod fronts;
 mod literal;
 mod set;
 
-pub use duty::read_duty;
 pub use event::read_event;
 pub use event::read_statement;
-pub use event::read_tags;
 pub use fault::Cause;
 pub use fault::WordFault;

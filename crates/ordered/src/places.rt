@@ -8,7 +8,7 @@ ghost use Rattle.ordered.specs.Ascending.{same, member, rising, placed, holdin
 use crate::order::TotalOrder;
 
 // The first `count` rows, or all where there are fewer.
-pub fn front<T>(rows: &[T], count: usize) -> &[T]
+pub(crate) fn front<T>(rows: &[T], count: usize) -> &[T]
     ensures { λ r. ⌜ now r ≡ take count (now (rows .entry)) ⌝ }
 {
     if count < rows.len() {
@@ -19,7 +19,7 @@ pub fn front<T>(rows: &[T], count: usize) -> &[T]
 }
 
 // The first row.
-pub fn first<T: TotalOrder>(rows: &[T]) -> Option<T>
+pub(crate) fn first<T: TotalOrder>(rows: &[T]) -> Option<T>
     ensures row { λ r. ⌜ r ≡ leading (now (rows .entry)) ⌝ }
     ensures least { λ r. ⌜ (rising less (now (rows .entry)) ≡ true → Least less (λ z. true) (now (rows .entry)) r) ⌝ }
 {
@@ -30,7 +30,7 @@ pub fn first<T: TotalOrder>(rows: &[T]) -> Option<T>
 }
 
 // How many rows at the front are less than x.
-pub fn place<T: TotalOrder>(rows: &[T], x: T) -> usize
+pub(crate) fn place<T: TotalOrder>(rows: &[T], x: T) -> usize
     ensures within { λ r. ⌜ r ≤ length (now (rows .entry)) ⌝ }
     ensures place { λ r. ⌜ r ≡ placed less x (now (rows .entry)) ⌝ }
 {
@@ -43,7 +43,7 @@ pub fn place<T: TotalOrder>(rows: &[T], x: T) -> usize
 }
 
 // x goes in front, and the last row is let go.
-pub fn push_front<T: Copy>(rows: &mut [T], x: T)
+pub(crate) fn push_front<T: Copy>(rows: &mut [T], x: T)
     ensures { λ _. ⌜ now (rows .exit) ≡ take (length (now (rows .entry))) (x ∷ now (rows .entry)) ⌝ }
 {
     let mut carried = x;
@@ -55,7 +55,7 @@ pub fn push_front<T: Copy>(rows: &mut [T], x: T)
 }
 
 // The first row goes, each of the others moves up, and the last place keeps its row.
-pub fn pop_front<T: Copy>(rows: &mut [T])
+pub(crate) fn pop_front<T: Copy>(rows: &mut [T])
     ensures { λ _. ⌜ now (rows .exit) ≡ drop 1 (now (rows .entry)) ++ drop (length (now (rows .entry)) - 1) (now (rows .entry)) ⌝ }
 {
     for i in 1..rows.len() {
@@ -64,7 +64,7 @@ pub fn pop_front<T: Copy>(rows: &mut [T])
 }
 
 // Whether x is one of the rows, which ascend.
-pub fn holds<T: TotalOrder>(rows: &[T], x: T) -> bool
+pub(crate) fn holds<T: TotalOrder>(rows: &[T], x: T) -> bool
     ensures answer { λ r. ⌜ r ≡ holding less x (now (rows .entry)) ⌝ }
     ensures set { λ r. ⌜ (rising less (now (rows .entry)) ≡ true → r ≡ member less x (now (rows .entry))) ⌝ }
 {
@@ -73,7 +73,7 @@ pub fn holds<T: TotalOrder>(rows: &[T], x: T) -> bool
 }
 
 // The first row above x.
-pub fn above<T: TotalOrder>(rows: &[T], x: T) -> Option<T>
+pub(crate) fn above<T: TotalOrder>(rows: &[T], x: T) -> Option<T>
     ensures row { λ r. ⌜ r ≡ following less x (now (rows .entry)) ⌝ }
     ensures least { λ r. ⌜ (rising less (now (rows .entry)) ≡ true → Least less (less x) (now (rows .entry)) r) ⌝ }
 {
@@ -86,7 +86,7 @@ pub fn above<T: TotalOrder>(rows: &[T], x: T) -> Option<T>
 }
 
 // x goes to its place among the first n rows, where it is not, and takes the row after them.
-pub fn insert_row<T: TotalOrder>(rows: &mut [T], n: usize, x: T)
+pub(crate) fn insert_row<T: TotalOrder>(rows: &mut [T], n: usize, x: T)
     requires within { ⌜ n < length (now rows) ⌝ }
     requires fresh { ⌜ holding less x (take n (now rows)) ≡ false ⌝ }
     ensures front { λ _. ⌜ take (n + 1) (now (rows .exit)) ≡ including less x (take n (now (rows .entry))) ⌝ }
@@ -99,7 +99,7 @@ pub fn insert_row<T: TotalOrder>(rows: &mut [T], n: usize, x: T)
 }
 
 // x leaves the first n rows, among which it is.
-pub fn remove_row<T: TotalOrder>(rows: &mut [T], n: usize, x: T)
+pub(crate) fn remove_row<T: TotalOrder>(rows: &mut [T], n: usize, x: T)
     requires within { ⌜ n ≤ length (now rows) ⌝ }
     requires there { ⌜ holding less x (take n (now rows)) ≡ true ⌝ }
     ensures front { λ _. ⌜ take (n - 1) (now (rows .exit)) ≡ excluding less x (take n (now (rows .entry))) ⌝ }
