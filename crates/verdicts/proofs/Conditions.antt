@@ -1,9 +1,10 @@
 -- The conditions of an order are read as the grammar spells them. Assumes nothing.
 use mathlib.Core.Path.{_≡_, refl, ap, sym, _∙_}
 use mathlib.Core.List.{List, [], _∷_, _++_, map}
-use Prim.Native.Nat.{ℕ, _≤_}
+use mathlib.Core.Logic.{_⊎_, inl, inr}
+use Prim.Native.Nat.{ℕ, _+_, _≤_}
 use native.Mathlib.Omega.{arith}
-use lib.ListN.{length, drop, replicate, take}
+use lib.ListN.{length, drop, length-append, replicate, take}
 use Rattle.std.specs.shelf.Lists.{All}
 use Rattle.std.specs.declared.option.Option.{Option}
 use Rattle.std.specs.declared.option.Option.the-variants.{Some, None}
@@ -81,3 +82,23 @@ module _ (tags points : List Name) where
   conditions-spelled cs os few h =
       let (ss, k) = each-spelled cs (all-spelled cs few (four-read cs os h)) in
       (ss, k, same-ok (sym (conditions-read cs ss few k) ∙ h))
+
+  -- the first field that spells no statement, after those that do
+  abbrev pub First-bad : List (List ℕ) → Type 0
+  First-bad cs = (done : List (List ℕ)) × (ss : List Statement) × (c : List ℕ) × (more : List (List ℕ)) × (k : Cause) × (cs ≡ done ++ c ∷ more) × Spells-each tags points done ss × (statement-of tags points c ≡ Err k)
+
+  told-first : (c : List ℕ) (cs : List (List ℕ)) (r : Result Statement Cause) → statement-of tags points c ≡ r → ((ss : List Statement) × Spells-each tags points cs ss) ⊎ First-bad cs → ((ss : List Statement) × Spells-each tags points (c ∷ cs) ss) ⊎ First-bad (c ∷ cs)
+  told-first c cs (Ok s) e (inl (ss, h)) = inl (s ∷ ss, and-field (statements-spelled tags points c s .0 e) h)
+  told-first c cs (Ok s) e (inr (done, ss, d, more, k, is, h, bad)) = inr (c ∷ done, s ∷ ss, d, more, k, ap (λ l. c ∷ l) is, and-field (statements-spelled tags points c s .0 e) h, bad)
+  told-first c cs (Err k) e rest = inr ([], [], c, cs, k, refl, no-field, e)
+
+  pub conditions-told : (cs : List (List ℕ)) → ((ss : List Statement) × Spells-each tags points cs ss) ⊎ First-bad cs
+  conditions-told [] = inl ([], no-field)
+  conditions-told (c ∷ cs) = told-first c cs (statement-of tags points c) refl (conditions-told cs)
+
+  pub conditions-bad : {cs : List (List ℕ)} {ss : List Statement} (c : List ℕ) (more : List (List ℕ)) (k : Cause) → length (cs ++ c ∷ more) ≤ 4 → Spells-each tags points cs ss → statement-of tags points c ≡ Err k → conditions-of tags points (cs ++ c ∷ more) ≡ Err (record { field = length cs + 4; cause = k })
+  conditions-bad x more k few no-field bad = rw bad
+  conditions-bad x more k few (and-field a no-field) bad = rw (here 4 a, bad)
+  conditions-bad x more k few (and-field a (and-field b no-field)) bad = rw (here 4 a, here 5 b, bad)
+  conditions-bad x more k few (and-field a (and-field b (and-field c no-field))) bad = rw (here 4 a, here 5 b, here 6 c, bad)
+  conditions-bad x more k few (and-field a (and-field b (and-field c (and-field {fs} d h)))) bad = absurd (omega (arith, length-append fs (x ∷ more)))

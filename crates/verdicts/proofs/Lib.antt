@@ -1,6 +1,7 @@
 pub mod Bytes
 pub mod Conditions
 pub mod LineDeclared
+pub mod LineRefused
 pub mod OneAnswer
 pub mod RefusedFirst
 pub mod TextDeclared

@@ -96,11 +96,11 @@ after-tabbed : (v : List ℕ) (cs : List (List ℕ)) → after 9 v cs ≡ v ++ t
 after-tabbed v [] = sym (append-nil v)
 after-tabbed v (c ∷ cs) = after-tabbed (v ++ 9 ∷ c) cs ∙ append-assoc v (9 ∷ c) (tabbed cs)
 
-split-tabbed : (v : List ℕ) (cs : List (List ℕ)) → Lacks 9 v → All (Lacks 9) cs → split 9 (v ++ tabbed cs) ≡ v ∷ cs
+pub split-tabbed : (v : List ℕ) (cs : List (List ℕ)) → Lacks 9 v → All (Lacks 9) cs → split 9 (v ++ tabbed cs) ≡ v ∷ cs
 split-tabbed v [] h hs = ap (split 9) (append-nil v) ∙ split-one 9 v h
 split-tabbed v (c ∷ cs) h (k, hs) = rw (split-append 9 v (c ++ tabbed cs), split-one 9 v h, split-tabbed c cs k hs)
 
-fields-joined : (r ev ef : List ℕ) (cs : List (List ℕ)) → split 9 r ≡ ev ∷ ef ∷ cs → ev ++ 9 ∷ (ef ++ tabbed cs) ≡ r
+pub fields-joined : (r ev ef : List ℕ) (cs : List (List ℕ)) → split 9 r ≡ ev ∷ ef ∷ cs → ev ++ 9 ∷ (ef ++ tabbed cs) ≡ r
 fields-joined r ev ef cs h =
     sym (append-assoc ev (9 ∷ ef) (tabbed cs)) ∙ sym (after-tabbed (ev ++ 9 ∷ ef) cs) ∙ ap (joined 9) (sym h) ∙ joined-split 9 r
 

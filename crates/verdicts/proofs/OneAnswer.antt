@@ -1,12 +1,11 @@
 -- Every text has one answer. Assumes nothing.
-use mathlib.Core.Path.{_≡_, refl, sym, _∙_}
+use mathlib.Core.Path.{_≡_, refl}
 use mathlib.Core.List.{List}
 use mathlib.Core.Logic.{_⊎_, inl, inr}
 use Prim.Native.Nat.{ℕ}
 use native.Mathlib.Omega.{arith}
 use Rattle.std.specs.declared.result.Result.{Result}
 use Rattle.std.specs.declared.result.Result.the-variants.{Ok, Err}
-use Rattle.std.specs.Results.{Cases}
 use Rattle.sheets.specs.Sheets.{Content}
 use Rattle.verdicts.specs.declared.fault.LoadFault.{LoadFault}
 use Rattle.verdicts.specs.Declares.{Declares}

@@ -9,8 +9,7 @@ use native.Mathlib.Omega.{arith}
 use lib.Dec.{eqb, leb}
 use lib.ListN.{length}
 use Rattle.std.proofs.shelf.Lists.{append-assoc}
-use Rattle.std.proofs.shelf.Tests.{and-from, and-parts, cases-bool, cond-both, cond-false, cond-true, eqb-true, le-leb, leb-false, leb-true, lt-leb}
-use Rattle.std.proofs.shelf.Ways.{tells}
+use Rattle.std.proofs.shelf.Tests.{and-from, and-parts, cases-bool, cond-false, cond-true, eqb-true, le-leb, leb-false, leb-true, lt-leb}
 use Rattle.std.specs.shelf.Lists.{All}
 use Rattle.std.specs.declared.option.Option.{Option}
 use Rattle.std.specs.declared.option.Option.the-variants.{Some, None}
@@ -27,18 +26,13 @@ use Rattle.verdicts.specs.declared.fault.LoadFault.{LoadFault}
 use Rattle.verdicts.specs.declared.fault.LoadFault.the-variants as F
 use Rattle.verdicts.specs.Texts.{lined, lines-of, loaded, meaning, passed, plain-byte, stray-line, unfinished-line}
 use Rattle.grammar.proofs.Pieces.{Lacks, joined, joined-split, split-append, split-one}
-use Rattle.grammar.proofs.Steps.{not-ok, ok-then}
+use Rattle.grammar.proofs.Steps.{ok-then}
 use Rattle.verdicts.specs.Declares.{Declare, no-line, and-line, ended}
-use Rattle.verdicts.specs.Refused.{Readable, Refused, bad-line, feeds, stray-byte, too-long, unfinished}
+use Rattle.verdicts.specs.Refused.{Readable, Refused, Refuses-line, bad-line, feeds, stray-byte, too-long, unfinished}
 use Rattle.verdicts.specs.Verdicts.{A-refusal-is-the-first-cause}
 use Rattle.verdicts.proofs.LineDeclared.{lines-declared}
+use Rattle.verdicts.proofs.LineRefused.{lines-refused, none-lacks, not-err, parts-without, same-err}
 use Rattle.verdicts.proofs.TextDeclared.{declare-feedless, finished, finished-text, joined-ended, line-ok, lines-step, not-none, parted, parted-finished, passed-ok, plain-stray, plain-text, stray-plain}
-
-not-err : {X E A : Type 0} {e : E} {x : X} → _≡_ {A = Result X E} (Ok x) (Err e) → A
-not-err h = not-ok (sym h)
-
-same-err : {X E : Type 0} {d e : E} → _≡_ {A = Result X E} (Err d) (Err e) → d ≡ e
-same-err h = cc
 
 same-some : {X : Type 0} {x y : X} → _≡_ {A = Option X} (Some x) (Some y) → x ≡ y
 same-some h = cc
@@ -128,7 +122,7 @@ line-err k (Err c) f h = (c, refl, same-err h)
 
 -- the first line that declares nothing, after those that declare a table
 abbrev Bad-line : ℕ → Content → List (List ℕ) → LoadFault → Type 0
-Bad-line k t ls f = (before : List (List ℕ)) × (l : List ℕ) × (rest : List (List ℕ)) × (u : Content) × (c : LineCause) × (ls ≡ before ++ l ∷ rest) × Declare t before u × (line-of u l ≡ Err c) × (F.Line (record { line = length before + k; cause = c }) ≡ f)
+Bad-line k t ls f = (before : List (List ℕ)) × (l : List ℕ) × (rest : List (List ℕ)) × (u : Content) × (c : LineCause) × (ls ≡ before ++ l ∷ rest) × Declare t before u × Refuses-line u l c × (F.Line (record { line = length before + k; cause = c }) ≡ f)
 
 line-found : (ls : List (List ℕ)) (k : ℕ) (t : Content) (f : LoadFault) → lines-of (parted ls) k t ≡ Err f → Bad-line k t ls f
 line-found [] k t f h = not-err h
@@ -136,40 +130,25 @@ line-found (l ∷ ls) k t f h =
     elim (then-err (loaded (lined k (line-of t l))) (lines-of (parted ls) (k + 1)) f (sym (lines-step l ls k t) ∙ h)) [
       | inl e ↦
           let (c, is, at) = line-err k (line-of t l) f e in
-          ([], l, ls, t, c, refl, no-line, is, ap (λ n. F.Line (record { line = n; cause = c })) (zero-add k) ∙ at)
+          ([], l, ls, t, c, refl, no-line, lines-refused t l c .0 is, ap (λ n. F.Line (record { line = n; cause = c })) (zero-add k) ∙ at)
       | inr (v, e, i) ↦
           let (before, m, rest, u, c, is, declare, bad, at) = line-found ls (k + 1) v f i in
           let n : length (l ∷ before) + k ≡ length before + (k + 1) = omega arith in
           (l ∷ before, m, rest, u, c, ap (λ q. l ∷ q) is, and-line (lines-declared t l v .0 (line-ok k (line-of t l) v e)) declare, bad, ap (λ n. F.Line (record { line = n; cause = c })) n ∙ at)
     ]
 
-line-there : {t u : Content} {ls : List (List ℕ)} (k : ℕ) (m : List ℕ) (ms : List (List ℕ)) (c : LineCause) → Declare t ls u → line-of u m ≡ Err c → lines-of (parted (ls ++ m ∷ ms)) k t ≡ Err (F.Line (record { line = length ls + k; cause = c }))
+line-there : {t u : Content} {ls : List (List ℕ)} (k : ℕ) (m : List ℕ) (ms : List (List ℕ)) (c : LineCause) → Declare t ls u → Refuses-line u m c → lines-of (parted (ls ++ m ∷ ms)) k t ≡ Err (F.Line (record { line = length ls + k; cause = c }))
 line-there k m ms c (no-line {t}) h =
-    lines-step m ms k t ∙ ap (λ r. and-then (loaded (lined k r)) (lines-of (parted ms) (k + 1))) h ∙ ap (λ n. Err (F.Line (record { line = n; cause = c }))) (sym (zero-add k))
+    lines-step m ms k t ∙ ap (λ r. and-then (loaded (lined k r)) (lines-of (parted ms) (k + 1))) (lines-refused t m c .1 h) ∙ ap (λ n. Err (F.Line (record { line = n; cause = c }))) (sym (zero-add k))
 line-there k m ms c (and-line {t} {u} {v} {l} {ls} g hs) h =
     let n : length ls + (k + 1) ≡ length (l ∷ ls) + k = omega arith in
     lines-step l (ls ++ m ∷ ms) k t
     ∙ ok-then (lines-of (parted (ls ++ m ∷ ms)) (k + 1)) (ap (λ r. loaded (lined k r)) (lines-declared t l u .1 g))
     ∙ line-there (k + 1) m ms c hs h ∙ ap (λ n. Err (F.Line (record { line = n; cause = c }))) n
 
--- the parts between line feeds have none
-onto-feedless : (b : ℕ) (ps : List (List ℕ)) → eqb b 10 ≡ false → All (λ p. feeds p ≡ 0) ps → All (λ p. feeds p ≡ 0) (onto b ps)
-onto-feedless b [] e h = (cond-false (eqb b 10) _ _ e, tt)
-onto-feedless b (p ∷ ps) e (h, hs) = (cond-false (eqb b 10) _ _ e ∙ h, hs)
-
-parts-feedless : (bs : List ℕ) → All (λ p. feeds p ≡ 0) (split 10 bs)
-parts-feedless [] = (refl, tt)
-parts-feedless (b ∷ bs) =
-    cond-both (eqb b 10) ([] ∷ split 10 bs) (onto b (split 10 bs)) (All (λ p. feeds p ≡ 0))
-    (λ _. (refl, parts-feedless bs)) (λ e. onto-feedless b (split 10 bs) e (parts-feedless bs))
-
 all-middle : {X : Type 0} (P : X → Type 0) (xs : List X) (y : X) (zs : List X) → All P (xs ++ y ∷ zs) → P y
 all-middle P [] y zs h = h .0
 all-middle P (x ∷ xs) y zs h = all-middle P xs y zs (h .1)
-
-feeds-none : (bs : List ℕ) → feeds bs ≡ 0 → Lacks 10 bs
-feeds-none [] h = tt
-feeds-none (b ∷ bs) h = ((λ e. grind (arith, tells)), feeds-none bs (grind (arith, tells)))
 
 -- lines with no line feed, and what follows
 split-lines : (ls : List (List ℕ)) (bs : List ℕ) → All (Lacks 10) ls → split 10 (ended ls ++ bs) ≡ ls ++ split 10 bs
@@ -195,13 +174,13 @@ line-parted ls ms l hs h =
     (qs, ap (split 10) (ended-append ls (l ∷ ms)) ∙ split-lines ls (l ++ 10 ∷ ended ms) hs ∙ ap (λ ps. ls ++ ps) is ∙ sym (append-assoc ls (l ∷ qs) ([] ∷ [])))
 
 module _ (text : List ℕ) (f : LoadFault) where
-  lines-refused : Readable text → unfinished-line 1 (split 10 text) ≡ None → lines-of (split 10 text) 1 blank ≡ Err f → Refused text f
-  lines-refused readable e h =
+  finished-refused : Readable text → unfinished-line 1 (split 10 text) ≡ None → lines-of (split 10 text) 1 blank ≡ Err f → Refused text f
+  finished-refused readable e h =
       let (ls, is) = finished 1 (split 10 text) (split-some 10 text) e in
       let (before, l, rest, u, c, parts, declare, bad, at) = line-found ls 1 blank f (ap (λ ps. lines-of ps 1 blank) (sym is) ∙ h) in
       let spelled : text ≡ ended (before ++ l ∷ rest) = sym (joined-split 10 text) ∙ ap (joined 10) is ∙ joined-ended ls ∙ ap ended parts in
       let apart : split 10 text ≡ before ++ l ∷ (rest ++ [] ∷ []) = is ∙ ap parted parts ∙ append-assoc before (l ∷ rest) ([] ∷ []) in
-      let one = all-middle (λ p. feeds p ≡ 0) before l (rest ++ [] ∷ []) (subst (All (λ p. feeds p ≡ 0)) apart (parts-feedless text)) in
+      let one = all-middle (λ p. feeds p ≡ 0) before l (rest ++ [] ∷ []) (subst (All (λ p. feeds p ≡ 0)) apart (parts-without 10 text)) in
       subst (λ v. Refused v f) (sym spelled) (subst (Refused (ended (before ++ l ∷ rest))) at (bad-line l rest (subst Readable spelled readable) declare one bad))
 
   unfinished-refused : Readable text → passed (unfinished-line 1 (split 10 text)) F.Unfinished ≡ Err f → Refused text f
@@ -220,7 +199,7 @@ module _ (text : List ℕ) (f : LoadFault) where
   plain-refused readable h =
       elim (then-err (passed (unfinished-line 1 (split 10 text)) F.Unfinished) (λ _. lines-of (split 10 text) 1 blank) f h) [
         | inl e ↦ unfinished-refused readable e
-        | inr (_, e, k) ↦ lines-refused readable (passed-ok (unfinished-line 1 (split 10 text)) F.Unfinished e) k
+        | inr (_, e, k) ↦ finished-refused readable (passed-ok (unfinished-line 1 (split 10 text)) F.Unfinished e) k
       ]
 
   short-refused : length text ≤ 32768 → plain-text text ≡ Err f → Refused text f
@@ -254,7 +233,7 @@ refused-text (unfinished before b readable no-feed) =
     plain-read text readable ∙ ap (λ o. and-then (passed o F.Unfinished) (λ _. lines-of (split 10 text) 1 blank)) (unfinished-there 1 before b no-feed)
 refused-text (bad-line {ls} l ms {t} {c} readable declare one bad) =
     let text = ended (ls ++ l ∷ ms) in
-    let (qs, is) = line-parted ls ms l (declare-feedless declare) (feeds-none l one) in
+    let (qs, is) = line-parted ls ms l (declare-feedless declare) (none-lacks 10 l one) in
     plain-read text readable
     ∙ ap (λ ps. and-then (passed (unfinished-line 1 ps) F.Unfinished) (λ _. lines-of ps 1 blank)) is
     ∙ ap (λ o. and-then (passed o F.Unfinished) (λ _. lines-of (parted (ls ++ l ∷ qs)) 1 blank)) (parted-finished 1 (ls ++ l ∷ qs))

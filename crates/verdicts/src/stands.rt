@@ -11,6 +11,8 @@ pub fn a_text_is_taken_as_what_its_lines_declare() -> u8
 
 // A text is refused by the first of its causes: too long; else the first byte that is not plain; else an end with no line feed; else the first line
 // that declares nothing beside the lines above it. Each has the number of its line.
+// Of that line it is the first cause again: its fields; else no room; else its name, ill-formed or declared before; else the first of its words that
+// says nothing, with its field; else the order as a whole.
 pub fn a_refusal_is_the_first_cause() -> u8
     ensures { λ _. ⌜ A-refusal-is-the-first-cause ⌝ }
 {
