@@ -6,6 +6,8 @@ mod order;
 mod row;
 mod sets;
 mod stands;
+#[cfg(test)]
+mod tests;
 
 pub use duty::Duty;
 pub use duty::Literal;
