@@ -44,11 +44,11 @@ none : {X : Type 0} {f : Form} → _≡_ {A = Option Form} None (Some f) → X
 none h = absurd (let z : _≡_ {A = ℕ} 0 1 = cc in omega arith)
 
 -- what is added: digits, where there are any, after +
-abbrev Adds : List ℕ → List ℕ → Type 0
+abbrev pub Adds : List ℕ → List ℕ → Type 0
 Adds r ds = ((r ≡ []) × (ds ≡ [])) ⊎ ((r ≡ 43 ∷ ds) × (numeral ds ≡ true))
 
 -- bytes in the shape of a due
-abbrev Spells-form : List ℕ → Form → Type 0
+abbrev pub Spells-form : List ℕ → Form → Type 0
 Spells-form bs (at ds) = (bs ≡ ds) × (numeral ds ≡ true)
 Spells-form bs (from-now ds) = (r : List ℕ) × (bs ≡ codes "now" ++ r) × Adds r ds
 Spells-form bs (from-t ds) = (r : List ℕ) × (bs ≡ codes "T" ++ r) × Adds r ds
@@ -91,7 +91,7 @@ module _ (p : List ℕ) (f : Form) where
     plus-form (name s) e h = none h
     plus-form other e h = none h
 
-words-form : (f : Form) (ws : List (List ℕ)) → form-of (map class-of ws) ≡ Some f → Spells-form (joined 43 ws) f
+pub words-form : (f : Form) (ws : List (List ℕ)) → form-of (map class-of ws) ≡ Some f → Spells-form (joined 43 ws) f
 words-form f [] h = none h
 words-form f (p ∷ []) h = alone-form p f (class-of p) refl h
 words-form f (p ∷ r ∷ []) h = plus-form p f r (class-of p) refl h
@@ -137,7 +137,7 @@ due-spelled bs u h =
     let f = words-form (r .0) (split 43 bs) (shaped-some (form-of (parts bs)) (r .0) (r .1)) in
     form-due bs (r .0) u (subst (λ b. Spells-form b (r .0)) (joined-split 43 bs) f) (r .2)
 
-number-alone : (ds : List ℕ) → numeral ds ≡ true → map class-of (split 43 ds) ≡ number ds ∷ []
+pub number-alone : (ds : List ℕ) → numeral ds ≡ true → map class-of (split 43 ds) ≡ number ds ∷ []
 number-alone ds h = rw (split-one 43 ds (number-lacks 43 ds refl h)) (ap (λ c. c ∷ []) (numbers-told ds .1 h))
 
 limit-read : (limit : ℕ) (ds : List ℕ) (n : ℕ) (make : ℕ → Due) → Number-up-to limit ds n → and-then (limited limit ds) (λ n. Ok (make n)) ≡ Ok (make n)

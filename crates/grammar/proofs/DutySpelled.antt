@@ -29,7 +29,7 @@ use Rattle.grammar.proofs.SetSpelled.{set-lacks, set-read, set-spelled}
 use Rattle.grammar.proofs.Steps.{by-cases, not-ok, ok-then, same-ok, then-ok, two-parts, two-read}
 
 -- a front and two words
-front-is : (front bs r d w : List ℕ) → past front bs ≡ Some r → split 32 r ≡ d ∷ w ∷ [] → front ++ (d ++ 32 ∷ w) ≡ bs
+pub front-is : (front bs r d w : List ℕ) → past front bs ≡ Some r → split 32 r ≡ d ∷ w ∷ [] → front ++ (d ++ 32 ∷ w) ≡ bs
 front-is front bs r d w e k =
     sym (past-is front bs r e ∙ ap (λ v. front ++ v) (sym (joined-split 32 r) ∙ ap (joined 32) k))
 
@@ -40,7 +40,7 @@ module _ (tags points : List Name) where
       subst (λ v. Spells-duty tags points v p) (front-is (codes "scan ") bs r d w e k) (subst (Spells-duty tags points (codes "scan " ++ (d ++ 32 ∷ w))) q (G.scan (due-spelled d u a) (set-spelled tags w (s .0) b)))
 
   -- a duty on a literal, after a front
-  abbrev on-one : (Literal → Task) → List ℕ → Result DutyPattern Cause
+  abbrev pub on-one : (Literal → Task) → List ℕ → Result DutyPattern Cause
   on-one make bs = and-then (on-literal points bs) (λ q. Ok (pattern (q .0) (make (q .1))))
 
   one-spelled : (front : List ℕ) (make : Literal → Task) → ((d w : List ℕ) (u : Due) (l : Literal) → Spells-due d u → Spells-literal points w l → Spells-duty tags points (front ++ (d ++ 32 ∷ w)) (pattern u (make l))) → (bs r : List ℕ) (p : DutyPattern) → past front bs ≡ Some r → on-one make r ≡ Ok p → Spells-duty tags points bs p
@@ -50,10 +50,10 @@ module _ (tags points : List Name) where
       let i : pattern u (make l) ≡ p = ap (λ (v : Due × Literal). pattern (v .0) (make (v .1))) q ∙ same-ok (t .2) in
       subst (λ v. Spells-duty tags points v p) (front-is front bs r d w e k) (subst (Spells-duty tags points (front ++ (d ++ 32 ∷ w))) i (each d w u l (due-spelled d u a) (shaped-spelled points w l b)))
 
-  abbrev by-hold : List ℕ → Result DutyPattern Cause
+  abbrev pub by-hold : List ℕ → Result DutyPattern Cause
   by-hold bs = by (past (codes "hold ") bs) (on-one K.Hold) (Err Shape)
 
-  abbrev by-reach : List ℕ → Result DutyPattern Cause
+  abbrev pub by-reach : List ℕ → Result DutyPattern Cause
   by-reach bs = by (past (codes "reach ") bs) (on-one K.Reach) (by-hold bs)
 
   hold-spelled : (bs : List ℕ) (p : DutyPattern) → by-hold bs ≡ Ok p → Spells-duty tags points bs p

@@ -27,7 +27,7 @@ module _ (tags points : List Name) where
       let t = then-ok (read-set tags bs) (λ s. Ok (E.Tags s)) e h in
       subst (Spells-event tags points bs) (same-ok (t .2)) (G.of-tags (set-spelled tags bs (t .0 .0) (t .1)))
 
-  abbrev by-failed : List ℕ → Result Event Cause
+  abbrev pub by-failed : List ℕ → Result Event Cause
   by-failed bs = by (past (codes "failed ") bs) (λ rest. and-then (duty-of tags points rest) (λ p. Ok (E.Failed p))) (and-then (read-set tags bs) (λ s. Ok (E.Tags s)))
 
   failed-spelled : (bs : List ℕ) (e : Event) → by-failed bs ≡ Ok e → Spells-event tags points bs e

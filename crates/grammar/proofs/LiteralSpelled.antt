@@ -1,5 +1,6 @@
 -- A literal is read as the grammar spells it. Assumes nothing.
 use mathlib.Core.Path.{_≡_, refl, sym, subst, _∙_}
+use mathlib.Core.Bool.{true}
 use mathlib.Core.List.{List, _∷_}
 use mathlib.Core.Logic.{inl, inr}
 use Prim.Native.Nat.{ℕ}
@@ -12,6 +13,7 @@ use Rattle.duties.specs.declared.duty.Literal.the-variants as L
 use Rattle.fields.specs.Fields.{literal-of, literal-shape, one-name, point-of}
 use Rattle.fields.specs.Reading.{and-then}
 use Rattle.names.specs.declared.name.Name.{Name}
+use Rattle.text.specs.Spelling.{is-name}
 use Rattle.text.specs.Split.{past}
 use Rattle.text.specs.Tokens.{class-of}
 use Rattle.grammar.specs.Grammar as G
@@ -20,6 +22,10 @@ use Rattle.grammar.specs.Reads.{Literals-are-read-as-spelled}
 use Rattle.grammar.proofs.Numbers.{name-lacks, numbered-point, point-named, point-numbered}
 use Rattle.grammar.proofs.Pieces.{Lacks, none-past, past-is}
 use Rattle.grammar.proofs.Steps.{by-cases, ok-then, same-ok, shaped-literal, then-ok}
+
+-- a name does not begin with !
+pub no-mark : (w : List ℕ) → is-name w ≡ true → past (codes "!") w ≡ None
+no-mark w h = none-past 33 (codes "!") w (λ q. q .0 refl) (name-lacks 33 w refl h)
 
 module _ (points : List Name) where
   pub literal-spelled : (bs : List ℕ) (l : Literal) → literal-of points bs ≡ Ok l → Spells-literal points bs l
@@ -33,19 +39,15 @@ module _ (points : List Name) where
             subst (Spells-literal points bs) (same-ok (t .2)) (G.is-so (point-numbered points bs (t .0) (t .1)))
       ]
 
-  -- a name does not begin with !
-  no-mark : (w : List ℕ) (n : ℕ) → Numbered points w n → past (codes "!") w ≡ None
-  no-mark w n h = none-past 33 (codes "!") w (λ q. q .0 refl) (name-lacks 33 w refl (h .0))
-
   pub literal-read : (bs : List ℕ) (l : Literal) → Spells-literal points bs l → literal-of points bs ≡ Ok l
-  literal-read _ _ (G.is-so {w} {n} h) = rw (no-mark w n h) (ok-then (λ n. Ok (L.Is n)) (numbered-point points w n h))
+  literal-read _ _ (G.is-so {w} {n} h) = rw (no-mark w (h .0)) (ok-then (λ n. Ok (L.Is n)) (numbered-point points w n h))
   literal-read _ _ (G.is-not {w} {n} h) = ok-then (λ n. Ok (L.Not n)) (numbered-point points w n h)
 
   numbered-name : (w : List ℕ) (n : ℕ) → Numbered points w n → one-name (class-of w) ≡ Ok tt
   numbered-name w n h = point-named points (class-of w) n (numbered-point points w n h)
 
   literal-shaped : (bs : List ℕ) (l : Literal) → Spells-literal points bs l → literal-shape bs ≡ Ok tt
-  literal-shaped _ _ (G.is-so {w} {n} h) = rw (no-mark w n h) (numbered-name w n h)
+  literal-shaped _ _ (G.is-so {w} {n} h) = rw (no-mark w (h .0)) (numbered-name w n h)
   literal-shaped _ _ (G.is-not {w} {n} h) = numbered-name w n h
 
   -- the same, with the shape first

@@ -42,7 +42,7 @@ module _ {X K : Type 0} (key : X → K) (rows : List X) (k : K) (x : X) where
   last-unique None None g h = refl
 
 module _ (ns : List Name) (w : List ℕ) where
-  place-last : Last-with (λ m. m) ns (name-of w) (place-of ns w)
+  pub place-last : Last-with (λ m. m) ns (name-of w) (place-of ns w)
   place-last =
       last-with (λ m. same name-before m (name-of w)) (λ m. m) (name-of w)
       (λ m h. same-is name-before name-irreflexive name-transitive name-total m (name-of w) h)

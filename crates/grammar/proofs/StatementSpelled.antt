@@ -41,7 +41,7 @@ module _ (tags points : List Name) where
         | inr (_, k) ↦ words-spelled bs (split 32 bs) s refl k
       ]
 
-  words-said : (v front d w : List ℕ) → split 32 (d ++ 32 ∷ w) ≡ d ∷ w ∷ [] → by-words tags points (front ++ (d ++ 32 ∷ w)) (v ∷ split 32 (d ++ 32 ∷ w)) ≡ and-then (duty-of tags points (front ++ (d ++ 32 ∷ w))) (λ p. Ok (S.Duty p))
+  pub words-said : (v front d w : List ℕ) → split 32 (d ++ 32 ∷ w) ≡ d ∷ w ∷ [] → by-words tags points (front ++ (d ++ 32 ∷ w)) (v ∷ split 32 (d ++ 32 ∷ w)) ≡ and-then (duty-of tags points (front ++ (d ++ 32 ∷ w))) (λ p. Ok (S.Duty p))
   words-said v front d w e = ap (λ ws. by-words tags points (front ++ (d ++ 32 ∷ w)) (v ∷ ws)) e
 
   -- a duty has three words, and the first is not `no`

@@ -43,7 +43,7 @@ abbrev pub read-due : List ℕ → Result Due Cause
 read-due bs = and-then (shaped (form-of (parts bs))) due-of
 
 -- two words: the shape of both, then what they say
-abbrev in-turn : {F U V Y E : Type 0} → Result F E → Result (Unit {0}) E → (F → Result U E) → Result V E → (U → V → Y) → Result Y E
+abbrev pub in-turn : {F U V Y E : Type 0} → Result F E → Result (Unit {0}) E → (F → Result U E) → Result V E → (U → V → Y) → Result Y E
 in-turn r s k q g = and-then r (λ f. and-then s (λ _. and-then (k f) (λ u. and-then q (λ v. Ok (g u v)))))
 
 module _ {F U V Y E : Type 0} where
