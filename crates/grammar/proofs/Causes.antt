@@ -1,7 +1,7 @@
 -- Why an answer refuses, put together from why its parts do. Assumes nothing.
 use mathlib.Core.Path.{_≡_, refl}
 use mathlib.Core.List.{List}
-use mathlib.Core.Logic.{_⊎_, inl, inr}
+use mathlib.Core.Logic.{_↔_, _⊎_, inl, inr}
 use Prim.Native.Nat.{ℕ, _<_, _≤_}
 use native.Mathlib.Omega.{arith}
 use Rattle.std.specs.declared.option.Option.{Option}
@@ -12,7 +12,7 @@ use Rattle.fields.specs.declared.fault.Cause.{Cause}
 use Rattle.fields.specs.declared.fault.Cause.the-variants.{Shape, Undeclared, Over}
 use Rattle.fields.specs.Reading.{and-then, by}
 use Rattle.names.specs.declared.name.Name.{Name}
-use Rattle.grammar.specs.Shapes.{Refused-by-first-cause, Undeclared-among}
+use Rattle.grammar.specs.Shapes.{Refuses, Undeclared-among}
 use Rattle.grammar.proofs.Steps.{in-turn, ok-then}
 
 -- a number is over its limit, or it is read
@@ -116,20 +116,19 @@ module _ {X : Type 0} (tags points : List Name) (Shaped : ℕ → ℕ → List (
   none-shaped (inl e) h = e
   none-shaped (inr (n, limit, ts, ps, s)) h = absurd (h n limit ts ps s)
 
-  pub by-first-cause : Or-shaped r (Some-shape Shaped) → ((n limit : ℕ) (ts ps : List (List ℕ)) → Shaped n limit ts ps → Decided n limit (Lacking tags points ts ps) r) → Refused-by-first-cause tags points Shaped r
-  by-first-cause some each = (
-    ((λ e n limit ts ps s. not-shape r n limit (Lacking tags points ts ps) (each n limit ts ps s) e), none-shaped some),
-    (
+  module _ (some : Or-shaped r (Some-shape Shaped)) (each : (n limit : ℕ) (ts ps : List (List ℕ)) → Shaped n limit ts ps → Decided n limit (Lacking tags points ts ps) r) where
+    pub by-first-cause : (k : Cause) → (r ≡ Err k) ↔ Refuses tags points Shaped k
+    by-first-cause Shape = ((λ e n limit ts ps s. not-shape r n limit (Lacking tags points ts ps) (each n limit ts ps s) e), none-shaped some)
+    by-first-cause Over = (
       (λ e.
           let (n, limit, ts, ps, s) = with-shape some (λ h. let z : _≡_ {A = ℕ} 0 1 = cc in omega arith) in
           (n, limit, ts, ps, s, over-limit r n limit (Lacking tags points ts ps) (each n limit ts ps s) e)),
       (λ (n, limit, ts, ps, s, lt). limit-over r n limit (Lacking tags points ts ps) (each n limit ts ps s) lt),
-    ),
-    (
+    )
+    by-first-cause Undeclared = (
       (λ e.
           let (n, limit, ts, ps, s) = with-shape some (λ h. let z : _≡_ {A = ℕ} 0 1 = cc in omega arith) in
           let (le, l) = undeclared-lack r n limit (Lacking tags points ts ps) (each n limit ts ps s) e in
           (n, limit, ts, ps, s, le, l)),
       (λ (n, limit, ts, ps, s, le, l). lack-undeclared r n limit (Lacking tags points ts ps) (each n limit ts ps s) le l),
-    ),
-  )
+    )

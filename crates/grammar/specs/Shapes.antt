@@ -7,7 +7,6 @@ use mathlib.Core.Logic.{_↔_, _⊎_}
 use Prim.Native.Nat.{ℕ, _<_, _≤_}
 use lib.Chars.{codes}
 use Rattle.std.specs.declared.option.Option.the-variants.{None}
-use Rattle.std.specs.declared.result.Result.{Result}
 use Rattle.std.specs.declared.result.Result.the-variants.{Err}
 use Rattle.duties.specs.Ranges.{last-minute, most-added}
 use Rattle.fields.specs.declared.fault.Cause.{Cause}
@@ -61,18 +60,23 @@ abbrev pub Undeclared-among : List Name → List (List ℕ) → Type 0
 Undeclared-among ns [] = ⊥
 Undeclared-among ns (w ∷ ws) = Last-with (λ m. m) ns (name-of w) None ⊎ Undeclared-among ns ws
 
--- An answer refuses for the shape exactly where there is no shape; else for a number exactly where it is over its limit;
--- else for a name exactly where one is not declared.
-abbrev pub Refused-by-first-cause : {X : Type 0} → (tags points : List Name) → ((n limit : ℕ) → (ts ps : List (List ℕ)) → Type 0) → Result X Cause → Type 0
-Refused-by-first-cause tags points Shaped answer =
-    ((answer ≡ Err Shape) ↔ ((n limit : ℕ) (ts ps : List (List ℕ)) → Shaped n limit ts ps → ⊥))
-    × ((answer ≡ Err Over) ↔ ((n limit : ℕ) × (ts ps : List (List ℕ)) × Shaped n limit ts ps × (limit < n)))
-    × ((answer ≡ Err Undeclared) ↔ ((n limit : ℕ) × (ts ps : List (List ℕ)) × Shaped n limit ts ps × (n ≤ limit) × (Undeclared-among tags ts ⊎ Undeclared-among points ps)))
+-- the cause by which a field is refused: there is no shape; else its number is over its limit; else a name is not declared
+abbrev pub Refuses : (tags points : List Name) → ((n limit : ℕ) → (ts ps : List (List ℕ)) → Type 0) → Cause → Type 0
+Refuses tags points Shaped Shape = (n limit : ℕ) (ts ps : List (List ℕ)) → Shaped n limit ts ps → ⊥
+Refuses tags points Shaped Over = (n limit : ℕ) × (ts ps : List (List ℕ)) × Shaped n limit ts ps × (limit < n)
+Refuses tags points Shaped Undeclared =
+    (n limit : ℕ) × (ts ps : List (List ℕ)) × Shaped n limit ts ps × (n ≤ limit) × (Undeclared-among tags ts ⊎ Undeclared-among points ps)
+
+abbrev pub Refuses-event : (tags points : List Name) → List ℕ → Cause → Type 0
+Refuses-event tags points bs k = Refuses tags points (Event-shape bs) k
+
+abbrev pub Refuses-statement : (tags points : List Name) → List ℕ → Cause → Type 0
+Refuses-statement tags points bs k = Refuses tags points (Statement-shape bs) k
 
 abbrev pub An-event-is-refused-by-its-first-cause : Type 0
 An-event-is-refused-by-its-first-cause =
-    (tags points : List Name) (bs : List ℕ) → Refused-by-first-cause tags points (Event-shape bs) (event-of tags points bs)
+    (tags points : List Name) (bs : List ℕ) (k : Cause) → (event-of tags points bs ≡ Err k) ↔ Refuses-event tags points bs k
 
 abbrev pub A-statement-is-refused-by-its-first-cause : Type 0
 A-statement-is-refused-by-its-first-cause =
-    (tags points : List Name) (bs : List ℕ) → Refused-by-first-cause tags points (Statement-shape bs) (statement-of tags points bs)
+    (tags points : List Name) (bs : List ℕ) (k : Cause) → (statement-of tags points bs ≡ Err k) ↔ Refuses-statement tags points bs k

@@ -34,6 +34,7 @@ use Rattle.grammar.proofs.EventSpelled.{events-spelled}
 use Rattle.grammar.proofs.StatementSpelled.{statements-spelled}
 use Rattle.grammar.proofs.Pieces.{Lacks, joined, joined-split, past-is, split-append, split-one}
 use Rattle.grammar.proofs.Steps.{not-ok}
+use Rattle.grammar.proofs.Refused.{events-refused, statements-refused}
 use Rattle.verdicts.specs.Declares.{Declares-line, Spells-each, a-tag, a-point, an-order, ordered-so, tabbed}
 use Rattle.verdicts.specs.Refused as R
 use Rattle.verdicts.specs.Refused.{Is-record, Order-fields, Refuses-line, Tabless, count-of, order-bytes}
@@ -168,11 +169,11 @@ module _ (t : Content) where
   refused-line (R.ill-named-point {w} h k is) = rw (one-read w h, lt-ltb (length (t .points)) 64 k, is)
   refused-line (R.repeated-point {w} k is known) = rw (split-one 9 w (no-tab w (name-prints w is)), lt-ltb (length (t .points)) 64 k, is, known)
   refused-line (R.full-of-orders ev ef cs h k) = rw (fields-read ev ef cs h, le-ltb (length (t .orders)) 128 k)
-  refused-line (R.bad-event ev ef cs h k bad) = rw (fields-read ev ef cs h, lt-ltb (length (t .orders)) 128 k, bad)
-  refused-line (R.bad-effect {ev} {e} ef cs h k a bad) =
-      rw (fields-read ev ef cs h, lt-ltb (length (t .orders)) 128 k, events-spelled (t .tags) (t .points) ev e .1 a, bad)
+  refused-line (R.bad-event ev ef cs {k = j} h k bad) = rw (fields-read ev ef cs h, lt-ltb (length (t .orders)) 128 k, events-refused (t .tags) (t .points) ev j .1 bad)
+  refused-line (R.bad-effect {ev} {e} ef cs {k = j} h k a bad) =
+      rw (fields-read ev ef cs h, lt-ltb (length (t .orders)) 128 k, events-spelled (t .tags) (t .points) ev e .1 a, statements-refused (t .tags) (t .points) ef j .1 bad)
   refused-line (R.bad-condition {ev} {ef} {e} {f} {cs} c more {k = j} h k a b each bad) =
-      rw (fields-read ev ef (cs ++ c ∷ more) h, lt-ltb (length (t .orders)) 128 k, events-spelled (t .tags) (t .points) ev e .1 a, statements-spelled (t .tags) (t .points) ef f .1 b, conditions-bad (t .tags) (t .points) c more j (h .3) each bad)
+      rw (fields-read ev ef (cs ++ c ∷ more) h, lt-ltb (length (t .orders)) 128 k, events-spelled (t .tags) (t .points) ev e .1 a, statements-spelled (t .tags) (t .points) ef f .1 b, conditions-bad (t .tags) (t .points) c more j (h .3) each (statements-refused (t .tags) (t .points) c j .1 bad))
   refused-line (R.literal-with-duty {ev} {ef} {cs} {e} {f} {ss} h k a b each apart) =
       rw (fields-read ev ef cs h, lt-ltb (length (t .orders)) 128 k, events-spelled (t .tags) (t .points) ev e .1 a, statements-spelled (t .tags) (t .points) ef f .1 b, conditions-read (t .tags) (t .points) cs ss (h .3) each, apart)
   refused-line (R.t-not-bound {ev} {ef} {cs} {e} {f} {ss} h k a b each apart bound) =
@@ -231,16 +232,16 @@ module _ (t : Content) where
         elim (conditions-told (t .tags) (t .points) cs) [
           | inl (ss, each) ↦ whole-judged e f ss lt a b each
           | inr (done, ss, c, more, k, is, each, bad) ↦
-              inr (C.Word (record { field = length done + 4; cause = k }), subst (λ ds. Refuses-line t (order-bytes ev ef ds) (C.Word (record { field = length done + 4; cause = k }))) (sym is) (R.bad-condition c more (subst (Order-fields ev ef) is h) lt a b each bad))
+              inr (C.Word (record { field = length done + 4; cause = k }), subst (λ ds. Refuses-line t (order-bytes ev ef ds) (C.Word (record { field = length done + 4; cause = k }))) (sym is) (R.bad-condition c more (subst (Order-fields ev ef) is h) lt a b each (statements-refused (t .tags) (t .points) c k .0 bad)))
         ]
 
     effect-judged : (e : Event) (r : Result Statement Cause) → statement-of (t .tags) (t .points) ef ≡ r → length (t .orders) < 128 → Spells-event (t .tags) (t .points) ev e → Judged (order-bytes ev ef cs)
     effect-judged e (Ok f) b lt a = conditions-judged e f lt a (statements-spelled (t .tags) (t .points) ef f .0 b)
-    effect-judged e (Err k) b lt a = inr (C.Word (record { field = 3; cause = k }), R.bad-effect ef cs h lt a b)
+    effect-judged e (Err k) b lt a = inr (C.Word (record { field = 3; cause = k }), R.bad-effect ef cs h lt a (statements-refused (t .tags) (t .points) ef k .0 b))
 
     event-judged : (r : Result Event Cause) → event-of (t .tags) (t .points) ev ≡ r → length (t .orders) < 128 → Judged (order-bytes ev ef cs)
     event-judged (Ok e) a lt = effect-judged e (statement-of (t .tags) (t .points) ef) refl lt (events-spelled (t .tags) (t .points) ev e .0 a)
-    event-judged (Err k) a lt = inr (C.Word (record { field = 2; cause = k }), R.bad-event ev ef cs h lt a)
+    event-judged (Err k) a lt = inr (C.Word (record { field = 2; cause = k }), R.bad-event ev ef cs h lt (events-refused (t .tags) (t .points) ev k .0 a))
 
     order-judged : Judged (order-bytes ev ef cs)
     order-judged =

@@ -7,12 +7,10 @@ use lib.Chars.{codes}
 use lib.Dec.{eqb}
 use lib.ListN.{length}
 use Rattle.std.specs.shelf.Lists.{All}
-use Rattle.std.specs.declared.result.Result.the-variants.{Err}
 use Rattle.duties.specs.declared.order.Event.{Event}
 use Rattle.duties.specs.declared.order.Statement.{Statement}
 use Rattle.duties.specs.Ranges.{literal-apart, t-bound}
 use Rattle.fields.specs.declared.fault.Cause.{Cause}
-use Rattle.fields.specs.Fields.{event-of, statement-of}
 use Rattle.names.specs.Names.{name-of}
 use Rattle.sheets.specs.Sheets.{Content, blank}
 use Rattle.text.specs.Spelling.{all, is-name}
@@ -20,6 +18,7 @@ use Rattle.lines.specs.declared.fault.LineCause.{LineCause}
 use Rattle.lines.specs.declared.fault.LineCause.the-variants as C
 use Rattle.lines.specs.Lines.{declared}
 use Rattle.grammar.specs.Grammar.{Spells-event, Spells-statement}
+use Rattle.grammar.specs.Shapes.{Refuses-event, Refuses-statement}
 use Rattle.verdicts.specs.declared.fault.LoadFault.{LoadFault}
 use Rattle.verdicts.specs.declared.fault.LoadFault.the-variants as F
 use Rattle.verdicts.specs.Texts.{plain-byte}
@@ -61,9 +60,9 @@ pub data Refuses-line (t : Content) : List ℕ → LineCause → Type 0 where
   ill-named-point : {w : List ℕ} → Tabless w → length (t .points) < 64 → is-name w ≡ false → Refuses-line t (codes "point" ++ 9 ∷ w) C.Name
   repeated-point : {w : List ℕ} → length (t .points) < 64 → is-name w ≡ true → declared t (name-of w) ≡ true → Refuses-line t (codes "point" ++ 9 ∷ w) C.Repeated
   full-of-orders : (ev ef : List ℕ) (cs : List (List ℕ)) → Order-fields ev ef cs → 128 ≤ length (t .orders) → Refuses-line t (order-bytes ev ef cs) C.Full
-  bad-event : (ev ef : List ℕ) (cs : List (List ℕ)) {k : Cause} → Order-fields ev ef cs → length (t .orders) < 128 → event-of (t .tags) (t .points) ev ≡ Err k → Refuses-line t (order-bytes ev ef cs) (C.Word (record { field = 2; cause = k }))
-  bad-effect : {ev : List ℕ} {e : Event} (ef : List ℕ) (cs : List (List ℕ)) {k : Cause} → Order-fields ev ef cs → length (t .orders) < 128 → Spells-event (t .tags) (t .points) ev e → statement-of (t .tags) (t .points) ef ≡ Err k → Refuses-line t (order-bytes ev ef cs) (C.Word (record { field = 3; cause = k }))
-  bad-condition : {ev ef : List ℕ} {e : Event} {f : Statement} {cs : List (List ℕ)} {ss : List Statement} (c : List ℕ) (more : List (List ℕ)) {k : Cause} → Order-fields ev ef (cs ++ c ∷ more) → length (t .orders) < 128 → Spells-event (t .tags) (t .points) ev e → Spells-statement (t .tags) (t .points) ef f → Spells-each (t .tags) (t .points) cs ss → statement-of (t .tags) (t .points) c ≡ Err k → Refuses-line t (order-bytes ev ef (cs ++ c ∷ more)) (C.Word (record { field = length cs + 4; cause = k }))
+  bad-event : (ev ef : List ℕ) (cs : List (List ℕ)) {k : Cause} → Order-fields ev ef cs → length (t .orders) < 128 → Refuses-event (t .tags) (t .points) ev k → Refuses-line t (order-bytes ev ef cs) (C.Word (record { field = 2; cause = k }))
+  bad-effect : {ev : List ℕ} {e : Event} (ef : List ℕ) (cs : List (List ℕ)) {k : Cause} → Order-fields ev ef cs → length (t .orders) < 128 → Spells-event (t .tags) (t .points) ev e → Refuses-statement (t .tags) (t .points) ef k → Refuses-line t (order-bytes ev ef cs) (C.Word (record { field = 3; cause = k }))
+  bad-condition : {ev ef : List ℕ} {e : Event} {f : Statement} {cs : List (List ℕ)} {ss : List Statement} (c : List ℕ) (more : List (List ℕ)) {k : Cause} → Order-fields ev ef (cs ++ c ∷ more) → length (t .orders) < 128 → Spells-event (t .tags) (t .points) ev e → Spells-statement (t .tags) (t .points) ef f → Spells-each (t .tags) (t .points) cs ss → Refuses-statement (t .tags) (t .points) c k → Refuses-line t (order-bytes ev ef (cs ++ c ∷ more)) (C.Word (record { field = length cs + 4; cause = k }))
   literal-with-duty : {ev ef : List ℕ} {cs : List (List ℕ)} {e : Event} {f : Statement} {ss : List Statement} → Order-fields ev ef cs → length (t .orders) < 128 → Spells-event (t .tags) (t .points) ev e → Spells-statement (t .tags) (t .points) ef f → Spells-each (t .tags) (t .points) cs ss → literal-apart (ordered-so e f ss) ≡ false → Refuses-line t (order-bytes ev ef cs) C.LiteralWithDuty
   t-not-bound : {ev ef : List ℕ} {cs : List (List ℕ)} {e : Event} {f : Statement} {ss : List Statement} → Order-fields ev ef cs → length (t .orders) < 128 → Spells-event (t .tags) (t .points) ev e → Spells-statement (t .tags) (t .points) ef f → Spells-each (t .tags) (t .points) cs ss → literal-apart (ordered-so e f ss) ≡ true → t-bound (ordered-so e f ss) ≡ false → Refuses-line t (order-bytes ev ef cs) C.UnboundT
 
