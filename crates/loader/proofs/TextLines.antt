@@ -13,11 +13,11 @@ use Rattle.std.specs.declared.result.Result.{Result}
 use Rattle.std.specs.declared.result.Result.the-variants.{Ok, Err}
 use Rattle.fields.specs.Reading.{and-then}
 use Rattle.lines.specs.Lines.{line-of}
-use Rattle.sheets.specs.Sheets.{Content, blank}
+use Rattle.sheets.specs.Sheets.{Content}
 use Rattle.text.specs.Split.{split}
 use Rattle.verdicts.specs.declared.fault.LineFault.{LineFault}
-use Rattle.verdicts.specs.declared.fault.LoadFault.the-variants.{Line, StrayByte, Unfinished}
-use Rattle.verdicts.specs.Texts.{lined, lines-of, loaded, meaning, passed, plain-byte, stray-line, unfinished-line}
+use Rattle.verdicts.specs.declared.fault.LoadFault.the-variants.{Line}
+use Rattle.verdicts.specs.Texts.{lined, lines-of, loaded, plain-byte, stray-line, unfinished-line}
 use Rattle.text.proofs.Splits.{split-some}
 
 module _ (bs : List ℕ) (i k : ℕ) (e : stray-line 1 bs ≡ stray-line k (drop i bs)) where
@@ -38,14 +38,6 @@ unended-tail k (b ∷ p) (w ∷ ws) some = refl
 pub unended-more : (k : ℕ) (p q : List ℕ) → unfinished-line k (p ∷ split 10 q) ≡ unfinished-line (k + 1) (split 10 q)
 unended-more k p q = unended-tail k p (split 10 q) (split-some 10 q)
 
-pub unended-none : (k : ℕ) (p : List ℕ) → length p ≡ 0 → unfinished-line k (p ∷ []) ≡ None
-unended-none k [] h = refl
-unended-none k (b ∷ p) h = absurd (omega arith)
-
-pub unended-here : (k : ℕ) (p : List ℕ) → (length p ≡ 0 → ⊥) → unfinished-line k (p ∷ []) ≡ Some k
-unended-here k [] h = absurd (h refl)
-unended-here k (b ∷ p) h = refl
-
 lines-tail : (l : List ℕ) (ws : List (List ℕ)) (k : ℕ) (t : Content) → 0 < length ws → lines-of (l ∷ ws) k t ≡ and-then (loaded (lined k (line-of t l))) (lines-of ws (k + 1))
 lines-tail l [] k t some = absurd (omega arith)
 lines-tail l (w ∷ ws) k t some = refl
@@ -63,7 +55,3 @@ module _ (ws : List (List ℕ)) (l q : List ℕ) (k : ℕ) (t : Content) (e : ws
 
   pub lines-stop : (f : LineFault) → lined k (line-of t l) ≡ Err f → lines-of ws k t ≡ Err (Line f)
   lines-stop f h = lines-by (Err f) h
-
--- a text that passes the checks of its bytes and its end
-pub meaning-lines : (text : List ℕ) (u v : Unit {0}) → length text ≤ 32768 → Ok u ≡ passed (stray-line 1 text) StrayByte → Ok v ≡ passed (unfinished-line 1 (split 10 text)) Unfinished → meaning text ≡ lines-of (split 10 text) 1 blank
-meaning-lines text u v fits plain ended = rw (le-leb (length text) 32768 fits, ← plain, ← ended)

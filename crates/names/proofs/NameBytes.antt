@@ -42,9 +42,6 @@ spelled-filled (b ∷ bs) (suc n) k le h =
 pub name-kept : (w : List ℕ) → name-like w ≡ true → name-bytes (name-of w) ≡ w
 name-kept w h = spelled-filled w 16 16 (name-short w h) (all-inner w h)
 
-pub name-injective : (v w : List ℕ) → name-like v ≡ true → name-like w ≡ true → name-of v ≡ name-of w → v ≡ w
-name-injective v w h k e = sym (name-kept v h) ∙ ap name-bytes e ∙ name-kept w k
-
 pub bytes-extended : (v w : List ℕ) → (w ≡ [] → ⊥) → bytes-before v (v ++ w) ≡ true
 bytes-extended [] [] some = absurd (some refl)
 bytes-extended [] (c ∷ w) some = refl

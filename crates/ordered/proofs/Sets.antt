@@ -9,7 +9,7 @@ use lib.ListN.{length}
 use Rattle.std.proofs.shelf.Tests.{both-ways, not-true, not-from-true, not-from-false, and-parts, and-from, and-left, or-from, or-left, or-right, or-cases}
 use Rattle.std.specs.declared.option.Option.{Option}
 use Rattle.std.specs.declared.option.Option.the-variants.{Some, None}
-use Rattle.ordered.specs.Ascending.{same, member, below, rising, including, excluding, holding, following, leading, union, Least, lesser}
+use Rattle.ordered.specs.Ascending.{same, member, below, rising, including, excluding, holding, following, leading, union, Least}
 
 or-swap : (a b c : Bool) → (a || (b || c)) ≡ (b || (a || c))
 or-swap true true c = refl
@@ -182,29 +182,6 @@ module _ {X : Type 0} (less : X → X → Bool) (irreflexive : (x : X) → less 
   member-union z [] ys = refl
   member-union z (x ∷ xs) ys = member-including z x (union less xs ys) ∙ ap (λ q. same less z x || q) (member-union z xs ys) ∙ or-join (same less z x) (member less z xs) (member less z ys)
 
-  pub length-union : (xs ys : List X) → rising less xs ≡ true → rising less ys ≡ true → ((z : X) → member less z xs ≡ true → member less z ys ≡ false) → length (union less xs ys) ≡ length xs + length ys
-  length-union [] ys h k apart = omega arith
-  length-union (x ∷ xs) ys h k apart =
-      let p = and-parts _ _ h in
-      let new : holding less x (union less xs ys) ≡ false =
-      holding-member x (union less xs ys) (rising-union xs ys k) ∙ member-union x xs ys ∙ or-from _ _ (absent x xs (p .0)) (apart x (or-left _ _ (same-refl x))) in
-      let tail : length (union less xs ys) ≡ length xs + length ys = length-union xs ys (p .1) k (λ z m. apart z (or-right _ _ m)) in
-      let here : length (including less x (union less xs ys)) ≡ suc (length (union less xs ys)) =
-      length-including less x (union less xs ys) ∙ ap (λ b. cond b (length (union less xs ys)) (suc (length (union less xs ys)))) new in
-      omega (arith, here, tail)
-
-  -- what is not less carries over too
-  pub not-less-trans : (z y x : X) → less z y ≡ false → less y x ≡ false → less z x ≡ false
-  not-less-trans z y x h k =
-      elim (less z x) as (λ b. less z x ≡ b → b ≡ false) [
-        | true ↦ λ f. elim (less y z) as (λ b. less y z ≡ b → true ≡ false) [ true ↦ λ e. sym (transitive y z x e f) ∙ k | false ↦ λ e. sym f ∙ ap (λ v. less v x) (total z y h e) ∙ k ] refl
-        | false ↦ λ f. refl
-      ]
-      refl
-
-  after-true : (y x : X) → less y x ≡ true → less x y ≡ false
-  after-true y x e = elim (less x y) as (λ b. less x y ≡ b → b ≡ false) [ true ↦ λ f. sym (transitive y x y e f) ∙ irreflexive y | false ↦ λ f. refl ] refl
-
   below-member : (y z : X) (ys : List X) → below less y ys ≡ true → member less z ys ≡ true → less z y ≡ false
   below-member y z [] h m = absurd (both-ways false refl m)
   below-member y z (w ∷ ys) h m =
@@ -240,30 +217,3 @@ module _ {X : Type 0} (less : X → X → Bool) (irreflexive : (x : X) → less 
   pub leading-least : (ys : List X) → rising less ys ≡ true → Least less (λ z. true) ys (leading ys)
   leading-least [] h = λ z m. absurd (both-ways false refl m)
   leading-least (y ∷ ys) h = least-here (λ z. true) y ys (and-parts _ _ h .0) refl
-
-  pub least-union : (ok : X → Bool) (xs ys : List X) (r s : Option X) → Least less ok xs r → Least less ok ys s → Least less ok (union less xs ys) (lesser less r s)
-  least-union ok xs ys None None h k = λ z m. elim (or-cases _ _ (sym (member-union z xs ys) ∙ m)) [ inl a ↦ h z a | inr b ↦ k z b ]
-  least-union ok xs ys None (Some y) h k = (
-    member-union y xs ys ∙ or-right _ _ (k .0),
-    k .1,
-    λ z m o. elim (or-cases _ _ (sym (member-union z xs ys) ∙ m)) [ inl a ↦ absurd (both-ways _ (h z a) o) | inr b ↦ k .2 z b o ],
-  )
-  least-union ok xs ys (Some x) None h k = (
-    member-union x xs ys ∙ or-left _ _ (h .0),
-    h .1,
-    λ z m o. elim (or-cases _ _ (sym (member-union z xs ys) ∙ m)) [ inl a ↦ h .2 z a o | inr b ↦ absurd (both-ways _ (k z b) o) ],
-  )
-  least-union ok xs ys (Some x) (Some y) h k =
-      elim (less y x) as (λ b. less y x ≡ b → Least less ok (union less xs ys) (cond b (Some y) (Some x))) [
-        | true ↦ λ e. (
-          member-union y xs ys ∙ or-right _ _ (k .0),
-          k .1,
-          λ z m o. elim (or-cases _ _ (sym (member-union z xs ys) ∙ m)) [ inl a ↦ not-less-trans z x y (h .2 z a o) (after-true y x e) | inr b ↦ k .2 z b o ],
-        )
-        | false ↦ λ e. (
-          member-union x xs ys ∙ or-left _ _ (h .0),
-          h .1,
-          λ z m o. elim (or-cases _ _ (sym (member-union z xs ys) ∙ m)) [ inl a ↦ h .2 z a o | inr b ↦ not-less-trans z y x (k .2 z b o) e ],
-        )
-      ]
-      refl

@@ -9,10 +9,6 @@ use Rattle.std.proofs.shelf.Tests.{not-false, not-true, both-ways}
 use Rattle.ordered.specs.Ascending.{placed, including, excluding, holding}
 
 module _ {X : Type 0} (less : X → X → Bool) (x : X) where
-  pub placed-within : (xs : List X) → placed less x xs ≤ length xs
-  placed-within [] = omega arith
-  placed-within (y ∷ ys) = elim (less y x) as (λ b. cond b (suc (placed less x ys)) 0 ≤ suc (length ys)) [ true ↦ omega (arith, placed-within ys) | false ↦ omega arith ]
-
   pub holding-past : (xs : List X) → length xs ≤ placed less x xs → holding less x xs ≡ false
   holding-past [] h = refl
   holding-past (y ∷ ys) h =

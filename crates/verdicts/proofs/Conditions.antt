@@ -1,11 +1,10 @@
 -- The conditions of an order are read as the grammar spells them. Assumes nothing.
-use mathlib.Core.Path.{_≡_, refl, ap, sym, _∙_}
+use mathlib.Core.Path.{_≡_, refl, ap}
 use mathlib.Core.List.{List, [], _∷_, _++_, map}
 use mathlib.Core.Logic.{_⊎_, inl, inr}
 use Prim.Native.Nat.{ℕ, _+_, _≤_}
 use native.Mathlib.Omega.{arith}
-use lib.ListN.{length, drop, length-append, replicate, take}
-use Rattle.std.specs.shelf.Lists.{All}
+use lib.ListN.{length, length-append, replicate, take}
 use Rattle.std.specs.declared.option.Option.{Option}
 use Rattle.std.specs.declared.option.Option.the-variants.{Some, None}
 use Rattle.std.specs.declared.result.Result.{Result}
@@ -16,59 +15,22 @@ use Rattle.fields.specs.declared.fault.WordFault.{WordFault}
 use Rattle.fields.specs.Fields.{statement-of}
 use Rattle.fields.specs.Reading.{and-then, placed}
 use Rattle.names.specs.declared.name.Name.{Name}
-use Rattle.lines.specs.Lines.{conditions-of, optional}
+use Rattle.lines.specs.Lines.{conditions-of}
 use Rattle.grammar.specs.Grammar.{Spells-statement}
 use Rattle.grammar.proofs.StatementSpelled.{statements-spelled}
-use Rattle.grammar.proofs.Steps.{not-ok, ok-then, same-ok, then-ok}
+use Rattle.grammar.proofs.Steps.{ok-then}
 use Rattle.verdicts.specs.Declares.{Spells-each, no-field, and-field}
 
-pub placed-ok : {X : Type 0} (k : ℕ) (r : Result X Cause) (x : X) → placed k r ≡ Ok x → r ≡ Ok x
-placed-ok k (Ok y) x h = ap Ok (same-ok h)
-placed-ok k (Err e) x h = not-ok h
-
-pub ok-placed : {X : Type 0} (k : ℕ) (r : Result X Cause) (x : X) → r ≡ Ok x → placed k r ≡ Ok x
+ok-placed : {X : Type 0} (k : ℕ) (r : Result X Cause) (x : X) → r ≡ Ok x → placed k r ≡ Ok x
 ok-placed k r x h = rw h
 
 module _ (tags points : List Name) where
-  -- the field spells some statement
-  abbrev Spelled : List ℕ → Type 0
-  Spelled c = (s : Statement) × Spells-statement tags points c s
-
   -- a field's condition
   abbrev condition : ℕ → List ℕ → Result (Option Statement) WordFault
   condition k c = and-then (placed k (statement-of tags points c)) (λ s. Ok (Some s))
 
-  there : (k : ℕ) (c : List ℕ) (o : Option Statement) → condition k c ≡ Ok o → Spelled c
-  there k c o h =
-      let t = then-ok (placed k (statement-of tags points c)) (λ s. Ok (Some s)) o h in
-      (t .0, statements-spelled tags points c (t .0) .0 (placed-ok k (statement-of tags points c) (t .0) (t .1)))
-
   here : {c : List ℕ} {s : Statement} (k : ℕ) → Spells-statement tags points c s → condition k c ≡ Ok (Some s)
   here {c} {s} k h = ok-then (λ s. Ok (Some s)) (ok-placed k (statement-of tags points c) s (statements-spelled tags points c s .1 h))
-
-  each-spelled : (cs : List (List ℕ)) → All Spelled cs → (ss : List Statement) × Spells-each tags points cs ss
-  each-spelled [] h = ([], no-field)
-  each-spelled (c ∷ cs) ((s, h), hs) = let (ss, k) = each-spelled cs hs in (s ∷ ss, and-field h k)
-
-  -- the conditions in the four fields from the first on
-  abbrev four : List (List ℕ) → Type 0
-  four cs = (a b c d : Option Statement) × (optional tags points 4 cs ≡ Ok a) × (optional tags points 5 (drop 1 cs) ≡ Ok b) × (optional tags points 6 (drop 1 (drop 1 cs)) ≡ Ok c) × (optional tags points 7 (drop 1 (drop 1 (drop 1 cs))) ≡ Ok d)
-
-  four-read : (cs : List (List ℕ)) (os : List (Option Statement)) → conditions-of tags points cs ≡ Ok os → four cs
-  four-read cs os h =
-      let p = then-ok (optional tags points 4 cs) (λ a. and-then (optional tags points 5 (drop 1 cs)) (λ b. and-then (optional tags points 6 (drop 1 (drop 1 cs))) (λ c. and-then (optional tags points 7 (drop 1 (drop 1 (drop 1 cs)))) (λ d. Ok (a ∷ b ∷ c ∷ d ∷ []))))) os h in
-      let q = then-ok (optional tags points 5 (drop 1 cs)) (λ b. and-then (optional tags points 6 (drop 1 (drop 1 cs))) (λ c. and-then (optional tags points 7 (drop 1 (drop 1 (drop 1 cs)))) (λ d. Ok (p .0 ∷ b ∷ c ∷ d ∷ [])))) os (p .2) in
-      let r = then-ok (optional tags points 6 (drop 1 (drop 1 cs))) (λ c. and-then (optional tags points 7 (drop 1 (drop 1 (drop 1 cs)))) (λ d. Ok (p .0 ∷ q .0 ∷ c ∷ d ∷ []))) os (q .2) in
-      let s = then-ok (optional tags points 7 (drop 1 (drop 1 (drop 1 cs)))) (λ d. Ok (p .0 ∷ q .0 ∷ r .0 ∷ d ∷ [])) os (r .2) in
-      (p .0, q .0, r .0, s .0, p .1, q .1, r .1, s .1)
-
-  all-spelled : (cs : List (List ℕ)) → length cs ≤ 4 → four cs → All Spelled cs
-  all-spelled [] few h = tt
-  all-spelled (p ∷ []) few (a, b, c, d, h, i, j, k) = (there 4 p a h, tt)
-  all-spelled (p ∷ q ∷ []) few (a, b, c, d, h, i, j, k) = (there 4 p a h, (there 5 q b i, tt))
-  all-spelled (p ∷ q ∷ r ∷ []) few (a, b, c, d, h, i, j, k) = (there 4 p a h, (there 5 q b i, (there 6 r c j, tt)))
-  all-spelled (p ∷ q ∷ r ∷ s ∷ []) few (a, b, c, d, h, i, j, k) = (there 4 p a h, (there 5 q b i, (there 6 r c j, (there 7 s d k, tt))))
-  all-spelled (p ∷ q ∷ r ∷ s ∷ u ∷ cs) few h = absurd (omega arith)
 
   pub conditions-read : (cs : List (List ℕ)) (ss : List Statement) → length cs ≤ 4 → Spells-each tags points cs ss → conditions-of tags points cs ≡ Ok (take 4 (map Some ss ++ replicate 4 None))
   conditions-read _ _ few no-field = refl
@@ -77,11 +39,6 @@ module _ (tags points : List Name) where
   conditions-read _ _ few (and-field a (and-field b (and-field c no-field))) = rw (here 4 a, here 5 b, here 6 c)
   conditions-read _ _ few (and-field a (and-field b (and-field c (and-field d no-field)))) = rw (here 4 a, here 5 b, here 6 c, here 7 d)
   conditions-read _ _ few (and-field a (and-field b (and-field c (and-field d (and-field e h))))) = absurd (omega arith)
-
-  pub conditions-spelled : (cs : List (List ℕ)) (os : List (Option Statement)) → length cs ≤ 4 → conditions-of tags points cs ≡ Ok os → (ss : List Statement) × Spells-each tags points cs ss × (take 4 (map Some ss ++ replicate 4 None) ≡ os)
-  conditions-spelled cs os few h =
-      let (ss, k) = each-spelled cs (all-spelled cs few (four-read cs os h)) in
-      (ss, k, same-ok (sym (conditions-read cs ss few k) ∙ h))
 
   -- the first field that spells no statement, after those that do
   abbrev pub First-bad : List (List ℕ) → Type 0

@@ -1,6 +1,6 @@
 pub mod Bytes
 pub mod Conditions
-pub mod LineDeclared
+pub mod LineFields
 pub mod LineRefused
 pub mod OneAnswer
 pub mod RefusedFirst

@@ -1,18 +1,13 @@
--- A line is refused by its first cause. Assumes nothing.
-use mathlib.Core.Path.{_≡_, refl, sym, ap, subst, _∙_}
-use mathlib.Core.Bool.{Bool, true, false}
-use mathlib.Core.List.{List, [], _∷_, _++_}
+-- A line declares something or is refused by its first cause, and it is read so. Assumes nothing.
+use mathlib.Core.Path.{_≡_, refl, sym, subst, _∙_}
+use mathlib.Core.List.{List, _∷_, _++_}
 use mathlib.Core.Logic.{_⊎_, _↔_, inl, inr}
 use Prim.Native.Nat.{ℕ, _+_, _<_, _≤_}
-use native.Mathlib.Omega.{arith}
 use lib.Chars.{codes}
-use lib.Dec.{eqb, leb, ltb}
+use lib.Dec.{ltb}
 use lib.ListN.{length}
-use Rattle.std.proofs.shelf.Tests.{both-ways, cases-bool, cond-both, cond-false, le-leb, le-ltb, leb-true, lt-ltb, ltb-false, ltb-true}
-use Rattle.std.proofs.shelf.Ways.{tells}
+use Rattle.std.proofs.shelf.Tests.{both-ways, cases-bool, le-ltb, lt-ltb, ltb-false, ltb-true}
 use Rattle.std.specs.shelf.Lists.{All}
-use Rattle.std.specs.declared.option.Option.{Option}
-use Rattle.std.specs.declared.option.Option.the-variants.{Some, None}
 use Rattle.std.specs.declared.result.Result.{Result}
 use Rattle.std.specs.declared.result.Result.the-variants.{Ok, Err}
 use Rattle.duties.specs.declared.order.Event.{Event}
@@ -20,27 +15,25 @@ use Rattle.duties.specs.declared.order.Statement.{Statement}
 use Rattle.duties.specs.Ranges.{literal-apart, t-bound}
 use Rattle.fields.specs.declared.fault.Cause.{Cause}
 use Rattle.fields.specs.Fields.{event-of, statement-of}
-use Rattle.fields.specs.Reading.{by}
+use Rattle.fields.specs.Reading.{and-then}
 use Rattle.names.specs.declared.name.Name.{Name}
 use Rattle.names.specs.Names.{name-of}
 use Rattle.sheets.specs.Sheets.{Content, with-order, with-point, with-tag}
 use Rattle.text.specs.Spelling.{is-name}
-use Rattle.text.specs.Split.{onto, past, split}
 use Rattle.lines.specs.declared.fault.LineCause.{LineCause}
 use Rattle.lines.specs.declared.fault.LineCause.the-variants as C
-use Rattle.lines.specs.Lines.{declared, line-of, one-field, order-fields}
+use Rattle.lines.specs.Lines.{checked, declared, line-of}
 use Rattle.grammar.specs.Grammar.{Spells-event, Spells-statement}
 use Rattle.grammar.proofs.EventSpelled.{events-spelled}
-use Rattle.grammar.proofs.StatementSpelled.{statements-spelled}
-use Rattle.grammar.proofs.Pieces.{Lacks, joined, joined-split, past-is, split-append, split-one}
-use Rattle.grammar.proofs.Steps.{not-ok}
 use Rattle.grammar.proofs.Refused.{events-refused, statements-refused}
-use Rattle.verdicts.specs.Declares.{Declares-line, Spells-each, a-tag, a-point, an-order, ordered-so, tabbed}
+use Rattle.grammar.proofs.StatementSpelled.{statements-spelled}
+use Rattle.grammar.proofs.Steps.{not-ok, same-ok}
+use Rattle.verdicts.specs.Declares.{Declares-line, Spells-each, no-field, and-field, a-tag, a-point, an-order, ordered-so}
 use Rattle.verdicts.specs.Refused as R
-use Rattle.verdicts.specs.Refused.{Is-record, Order-fields, Refuses-line, Tabless, count-of, order-bytes}
-use Rattle.verdicts.proofs.Bytes.{name-prints, no-tab}
+use Rattle.verdicts.specs.Refused.{Is-record, Order-fields, Refuses-line, Tabless, order-bytes}
+use Rattle.verdicts.proofs.Bytes.{event-prints, name-prints, statement-prints}
 use Rattle.verdicts.proofs.Conditions.{conditions-bad, conditions-read, conditions-told}
-use Rattle.verdicts.proofs.LineDeclared.{fields-joined, lines-declared, split-tabbed}
+use Rattle.verdicts.proofs.LineFields.{fields-read, one-read, prints-tabless, record-shaped, shaped-so, sorted}
 
 pub not-err : {X E A : Type 0} {e : E} {x : X} → _≡_ {A = Result X E} (Ok x) (Err e) → A
 not-err h = not-ok (sym h)
@@ -48,136 +41,46 @@ not-err h = not-ok (sym h)
 pub same-err : {X E : Type 0} {d e : E} → _≡_ {A = Result X E} (Err d) (Err e) → d ≡ e
 same-err h = cc
 
--- the parts between separators have none
-onto-without : (s b : ℕ) (ps : List (List ℕ)) → eqb b s ≡ false → All (λ p. count-of s p ≡ 0) ps → All (λ p. count-of s p ≡ 0) (onto b ps)
-onto-without s b [] e h = (cond-false (eqb b s) _ _ e, tt)
-onto-without s b (p ∷ ps) e (h, hs) = (cond-false (eqb b s) _ _ e ∙ h, hs)
-
-pub parts-without : (s : ℕ) (bs : List ℕ) → All (λ p. count-of s p ≡ 0) (split s bs)
-parts-without s [] = (refl, tt)
-parts-without s (b ∷ bs) =
-    cond-both (eqb b s) ([] ∷ split s bs) (onto b (split s bs)) (All (λ p. count-of s p ≡ 0))
-    (λ _. (refl, parts-without s bs)) (λ e. onto-without s b (split s bs) e (parts-without s bs))
-
-pub none-lacks : (s : ℕ) (bs : List ℕ) → count-of s bs ≡ 0 → Lacks s bs
-none-lacks s [] h = tt
-none-lacks s (b ∷ bs) h = ((λ e. grind (arith, tells)), none-lacks s bs (grind (arith, tells)))
-
-each-lacks : (cs : List (List ℕ)) → All Tabless cs → All (Lacks 9) cs
-each-lacks [] h = tt
-each-lacks (c ∷ cs) (h, hs) = (none-lacks 9 c h, each-lacks cs hs)
-
--- the fields of a record are found
-one-read : (w : List ℕ) → Tabless w → split 9 w ≡ w ∷ []
-one-read w h = split-one 9 w (none-lacks 9 w h)
-
-fields-read : (ev ef : List ℕ) (cs : List (List ℕ)) → Order-fields ev ef cs → order-fields (split 9 (ev ++ 9 ∷ (ef ++ tabbed cs))) ≡ Ok (ev, ef, cs)
-fields-read ev ef cs (h, k, hs, le) =
-    rw (split-append 9 ev (ef ++ tabbed cs), one-read ev h, split-tabbed ef cs (none-lacks 9 ef k) (each-lacks cs hs), le-leb (length cs) 4 le)
-
-abbrev is-ok : {X : Type 0} → Result X LineCause → Bool
-is-ok (Ok x) = true
-is-ok (Err e) = false
-
--- whether a line has a key word and the fields that it takes
-abbrev shaped-so : List ℕ → Bool
-shaped-so l =
-    by (past (codes "tag" ++ 9 ∷ []) l) (λ r. is-ok (one-field (split 9 r)))
-    (by (past (codes "point" ++ 9 ∷ []) l) (λ r. is-ok (one-field (split 9 r)))
-    (by (past (codes "order" ++ 9 ∷ []) l) (λ r. is-ok (order-fields (split 9 r))) false))
-
-record-shaped : {l : List ℕ} → Is-record l → shaped-so l ≡ true
-record-shaped (R.tag-record {w} h) = rw (one-read w h)
-record-shaped (R.point-record {w} h) = rw (one-read w h)
-record-shaped (R.order-record ev ef cs h) = ap is-ok (fields-read ev ef cs h)
-
-maybe-cases : {X : Type 0} (o : Option X) → ((x : X) × (o ≡ Some x)) ⊎ (o ≡ None)
-maybe-cases (Some x) = inl (x, refl)
-maybe-cases None = inr refl
-
-one-cases : (ws : List (List ℕ)) → ((w : List ℕ) × (ws ≡ w ∷ [])) ⊎ (one-field ws ≡ Err C.Fields)
-one-cases [] = inr refl
-one-cases (w ∷ []) = inl (w, refl)
-one-cases (w ∷ v ∷ ws) = inr refl
-
-few-cases : (ws : List (List ℕ)) → ((ev ef : List ℕ) × (cs : List (List ℕ)) × (ws ≡ ev ∷ ef ∷ cs) × (length cs ≤ 4)) ⊎ (order-fields ws ≡ Err C.Fields)
-few-cases [] = inr refl
-few-cases (ev ∷ []) = inr refl
-few-cases (ev ∷ ef ∷ cs) =
-    elim (cases-bool (leb (length cs) 4)) [
-      | inl e ↦ inl (ev, ef, cs, refl, leb-true (length cs) 4 e)
-      | inr e ↦ inr (cond-false (leb (length cs) 4) _ _ e)
-    ]
-
-one-tabless : (r w : List ℕ) → split 9 r ≡ w ∷ [] → Tabless r
-one-tabless r w is = subst Tabless (ap (joined 9) (sym is) ∙ joined-split 9 r) (subst (All Tabless) is (parts-without 9 r) .0)
-
 module _ (t : Content) where
-  -- a line is a record, or it is read as none
-  abbrev Sorted : List ℕ → Type 0
-  Sorted l = Is-record l ⊎ ((shaped-so l ≡ false) × (line-of t l ≡ Err C.Fields))
+  each-tabless : {cs : List (List ℕ)} {ss : List Statement} → Spells-each (t .tags) (t .points) cs ss → All Tabless cs
+  each-tabless no-field = tt
+  each-tabless (and-field {f} h hs) = (prints-tabless f (statement-prints h), each-tabless hs)
 
-  tag-sorted : (l r : List ℕ) → past (codes "tag" ++ 9 ∷ []) l ≡ Some r → Sorted l
-  tag-sorted l r e =
-      elim (one-cases (split 9 r)) [
-        | inl (w, is) ↦ inl (subst Is-record (sym (past-is (codes "tag" ++ 9 ∷ []) l r e)) (R.tag-record (one-tabless r w is)))
-        | inr bad ↦ inr (rw (e, bad), rw (e, bad))
-      ]
+  -- what is spelled may be a field
+  spelled-fields : {ev ef : List ℕ} {cs : List (List ℕ)} {e : Event} {f : Statement} {ss : List Statement} → Spells-event (t .tags) (t .points) ev e → Spells-statement (t .tags) (t .points) ef f → Spells-each (t .tags) (t .points) cs ss → length cs ≤ 4 → Order-fields ev ef cs
+  spelled-fields {ev} {ef} h k hs le = (prints-tabless ev (event-prints h), prints-tabless ef (statement-prints k), each-tabless hs, le)
 
-  point-sorted : (l r : List ℕ) → past (codes "tag" ++ 9 ∷ []) l ≡ None → past (codes "point" ++ 9 ∷ []) l ≡ Some r → Sorted l
-  point-sorted l r a e =
-      elim (one-cases (split 9 r)) [
-        | inl (w, is) ↦ inl (subst Is-record (sym (past-is (codes "point" ++ 9 ∷ []) l r e)) (R.point-record (one-tabless r w is)))
-        | inr bad ↦ inr (rw (a, e, bad), rw (a, e, bad))
-      ]
+  -- an order whose words are all spelled
+  order-read : {ev ef : List ℕ} {cs : List (List ℕ)} {e : Event} {f : Statement} {ss : List Statement} → Spells-event (t .tags) (t .points) ev e → Spells-statement (t .tags) (t .points) ef f → Spells-each (t .tags) (t .points) cs ss → length cs ≤ 4 → length (t .orders) < 128 → line-of t (order-bytes ev ef cs) ≡ and-then (checked (ordered-so e f ss)) (λ o. Ok (with-order t o))
+  order-read {ev} {ef} {cs} {e} {f} {ss} h k hs le lt =
+      rw (fields-read ev ef cs (spelled-fields h k hs le), lt-ltb (length (t .orders)) 128 lt, events-spelled (t .tags) (t .points) ev e .1 h, statements-spelled (t .tags) (t .points) ef f .1 k, conditions-read (t .tags) (t .points) cs ss le hs)
 
-  order-sorted : (l r : List ℕ) → past (codes "tag" ++ 9 ∷ []) l ≡ None → past (codes "point" ++ 9 ∷ []) l ≡ None → past (codes "order" ++ 9 ∷ []) l ≡ Some r → Sorted l
-  order-sorted l r a b e =
-      elim (few-cases (split 9 r)) [
-        | inl (ev, ef, cs, is, le) ↦
-            let (h, (k, hs)) = subst (All Tabless) is (parts-without 9 r) in
-            let whole : order-bytes ev ef cs ≡ l = ap (λ v. codes "order" ++ 9 ∷ v) (fields-joined r ev ef cs is) ∙ sym (past-is (codes "order" ++ 9 ∷ []) l r e) in
-            inl (subst Is-record whole (R.order-record ev ef cs (h, k, hs, le)))
-        | inr bad ↦ inr (rw (a, b, e, bad), rw (a, b, e, bad))
-      ]
-
-  sorted : (l : List ℕ) → Sorted l
-  sorted l =
-      elim (maybe-cases (past (codes "tag" ++ 9 ∷ []) l)) [
-        | inl (r, e) ↦ tag-sorted l r e
-        | inr a ↦
-            elim (maybe-cases (past (codes "point" ++ 9 ∷ []) l)) [
-              | inl (r, e) ↦ point-sorted l r a e
-              | inr b ↦
-                  elim (maybe-cases (past (codes "order" ++ 9 ∷ []) l)) [
-                    | inl (r, e) ↦ order-sorted l r a b e
-                    | inr c ↦ inr (rw (a, b, c), rw (a, b, c))
-                  ]
-            ]
-      ]
+  declared-line : {l : List ℕ} {u : Content} → Declares-line t l u → line-of t l ≡ Ok u
+  declared-line (a-tag {w} is new lt) = rw (one-read w (prints-tabless w (name-prints w is)), lt-ltb (length (t .tags)) 64 lt, is, new)
+  declared-line (a-point {w} is new lt) = rw (one-read w (prints-tabless w (name-prints w is)), lt-ltb (length (t .points)) 64 lt, is, new)
+  declared-line (an-order h k hs le lt apart bound) = order-read h k hs le lt ∙ rw (apart, bound)
 
   refused-line : {l : List ℕ} {c : LineCause} → Refuses-line t l c → line-of t l ≡ Err c
   refused-line (R.no-record {l} h) =
-      elim (sorted l) [
+      elim (sorted t l) [
         | inl r ↦ absurd (h r)
         | inr (_, e) ↦ e
       ]
   refused-line (R.full-of-tags {w} h k) = rw (one-read w h, le-ltb (length (t .tags)) 64 k)
   refused-line (R.ill-named-tag {w} h k is) = rw (one-read w h, lt-ltb (length (t .tags)) 64 k, is)
-  refused-line (R.repeated-tag {w} k is known) = rw (split-one 9 w (no-tab w (name-prints w is)), lt-ltb (length (t .tags)) 64 k, is, known)
+  refused-line (R.repeated-tag {w} k is known) = rw (one-read w (prints-tabless w (name-prints w is)), lt-ltb (length (t .tags)) 64 k, is, known)
   refused-line (R.full-of-points {w} h k) = rw (one-read w h, le-ltb (length (t .points)) 64 k)
   refused-line (R.ill-named-point {w} h k is) = rw (one-read w h, lt-ltb (length (t .points)) 64 k, is)
-  refused-line (R.repeated-point {w} k is known) = rw (split-one 9 w (no-tab w (name-prints w is)), lt-ltb (length (t .points)) 64 k, is, known)
+  refused-line (R.repeated-point {w} k is known) = rw (one-read w (prints-tabless w (name-prints w is)), lt-ltb (length (t .points)) 64 k, is, known)
   refused-line (R.full-of-orders ev ef cs h k) = rw (fields-read ev ef cs h, le-ltb (length (t .orders)) 128 k)
-  refused-line (R.bad-event ev ef cs {k = j} h k bad) = rw (fields-read ev ef cs h, lt-ltb (length (t .orders)) 128 k, events-refused (t .tags) (t .points) ev j .1 bad)
+  refused-line (R.bad-event ev ef cs {k = j} h k bad) =
+      rw (fields-read ev ef cs h, lt-ltb (length (t .orders)) 128 k, events-refused (t .tags) (t .points) ev j .1 bad)
   refused-line (R.bad-effect {ev} {e} ef cs {k = j} h k a bad) =
       rw (fields-read ev ef cs h, lt-ltb (length (t .orders)) 128 k, events-spelled (t .tags) (t .points) ev e .1 a, statements-refused (t .tags) (t .points) ef j .1 bad)
   refused-line (R.bad-condition {ev} {ef} {e} {f} {cs} c more {k = j} h k a b each bad) =
       rw (fields-read ev ef (cs ++ c ∷ more) h, lt-ltb (length (t .orders)) 128 k, events-spelled (t .tags) (t .points) ev e .1 a, statements-spelled (t .tags) (t .points) ef f .1 b, conditions-bad (t .tags) (t .points) c more j (h .3) each (statements-refused (t .tags) (t .points) c j .1 bad))
-  refused-line (R.literal-with-duty {ev} {ef} {cs} {e} {f} {ss} h k a b each apart) =
-      rw (fields-read ev ef cs h, lt-ltb (length (t .orders)) 128 k, events-spelled (t .tags) (t .points) ev e .1 a, statements-spelled (t .tags) (t .points) ef f .1 b, conditions-read (t .tags) (t .points) cs ss (h .3) each, apart)
-  refused-line (R.t-not-bound {ev} {ef} {cs} {e} {f} {ss} h k a b each apart bound) =
-      rw (fields-read ev ef cs h, lt-ltb (length (t .orders)) 128 k, events-spelled (t .tags) (t .points) ev e .1 a, statements-spelled (t .tags) (t .points) ef f .1 b, conditions-read (t .tags) (t .points) cs ss (h .3) each, apart, bound)
+  refused-line (R.literal-with-duty h k hs le lt apart) = order-read h k hs le lt ∙ rw apart
+  refused-line (R.t-not-bound h k hs le lt apart bound) = order-read h k hs le lt ∙ rw (apart, bound)
 
   -- a line declares something, or there is a cause
   abbrev Judged : List ℕ → Type 0
@@ -222,9 +125,9 @@ module _ (t : Content) where
           | inl apart ↦
               elim (cases-bool (t-bound (ordered-so e f ss))) [
                 | inl bound ↦ inl (with-order t (ordered-so e f ss), an-order a b each (h .3) lt apart bound)
-                | inr bound ↦ inr (C.UnboundT, R.t-not-bound h lt a b each apart bound)
+                | inr bound ↦ inr (C.UnboundT, R.t-not-bound a b each (h .3) lt apart bound)
               ]
-          | inr apart ↦ inr (C.LiteralWithDuty, R.literal-with-duty h lt a b each apart)
+          | inr apart ↦ inr (C.LiteralWithDuty, R.literal-with-duty a b each (h .3) lt apart)
         ]
 
     conditions-judged : (e : Event) (f : Statement) → length (t .orders) < 128 → Spells-event (t .tags) (t .points) ev e → Spells-statement (t .tags) (t .points) ef f → Judged (order-bytes ev ef cs)
@@ -257,17 +160,27 @@ module _ (t : Content) where
 
   judged : (l : List ℕ) → Judged l
   judged l =
-      elim (sorted l) [
+      elim (sorted t l) [
         | inl r ↦ record-judged r
         | inr (e, _) ↦ inr (C.Fields, R.no-record (λ r. both-ways (shaped-so l) e (record-shaped r)))
+      ]
+
+  line-declared : (l : List ℕ) (u : Content) → line-of t l ≡ Ok u → Declares-line t l u
+  line-declared l u e =
+      elim (judged l) [
+        | inl (v, d) ↦ subst (Declares-line t l) (same-ok (sym (declared-line d) ∙ e)) d
+        | inr (c, r) ↦ not-err (sym e ∙ refused-line r)
       ]
 
   line-refused : (l : List ℕ) (c : LineCause) → line-of t l ≡ Err c → Refuses-line t l c
   line-refused l c e =
       elim (judged l) [
-        | inl (u, d) ↦ not-ok (sym e ∙ lines-declared t l u .1 d)
+        | inl (u, d) ↦ not-ok (sym e ∙ declared-line d)
         | inr (d, r) ↦ subst (Refuses-line t l) (same-err (sym (refused-line r) ∙ e)) r
       ]
+
+pub lines-declared : (t : Content) (l : List ℕ) (u : Content) → (line-of t l ≡ Ok u) ↔ Declares-line t l u
+lines-declared t l u = (line-declared t l u, declared-line t)
 
 pub lines-refused : (t : Content) (l : List ℕ) (c : LineCause) → (line-of t l ≡ Err c) ↔ Refuses-line t l c
 lines-refused t l c = (line-refused t l c, refused-line t)

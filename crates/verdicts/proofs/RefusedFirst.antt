@@ -30,8 +30,8 @@ use Rattle.grammar.proofs.Steps.{ok-then}
 use Rattle.verdicts.specs.Declares.{Declare, no-line, and-line, ended}
 use Rattle.verdicts.specs.Refused.{Readable, Refused, Refuses-line, bad-line, feeds, stray-byte, too-long, unfinished}
 use Rattle.verdicts.specs.Verdicts.{A-refusal-is-the-first-cause}
-use Rattle.verdicts.proofs.LineDeclared.{lines-declared}
-use Rattle.verdicts.proofs.LineRefused.{lines-refused, none-lacks, not-err, parts-without, same-err}
+use Rattle.verdicts.proofs.LineRefused.{lines-declared, lines-refused, not-err, same-err}
+use Rattle.verdicts.proofs.LineFields.{none-lacks, parts-without}
 use Rattle.verdicts.proofs.TextDeclared.{declare-feedless, finished, finished-text, joined-ended, line-ok, lines-step, not-none, parted, parted-finished, passed-ok, plain-stray, plain-text, stray-plain}
 
 same-some : {X : Type 0} {x y : X} → _≡_ {A = Option X} (Some x) (Some y) → x ≡ y

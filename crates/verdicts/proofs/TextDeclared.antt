@@ -30,7 +30,7 @@ use Rattle.grammar.proofs.Steps.{not-ok, ok-then, same-ok, then-ok}
 use Rattle.verdicts.specs.Declares.{Declare, Declares, Declares-line, Spells-each, a-tag, a-point, an-order, no-field, and-field, no-line, and-line, ended, tabbed}
 use Rattle.verdicts.specs.Verdicts.{A-text-is-taken-as-what-its-lines-declare}
 use Rattle.verdicts.proofs.Bytes.{all-both, event-prints, name-prints, no-feed, one-line, statement-prints}
-use Rattle.verdicts.proofs.LineDeclared.{cond-ok, lines-declared}
+use Rattle.verdicts.proofs.LineRefused.{lines-declared}
 
 -- what stands between the line feeds of a finished text
 abbrev pub parted : List (List ℕ) → List (List ℕ)
@@ -116,6 +116,11 @@ line-feedless (an-order {ev} {ef} {cs} h k hs le lt apart bound) =
 pub declare-feedless : {t u : Content} {ls : List (List ℕ)} → Declare t ls u → All (Lacks 10) ls
 declare-feedless no-line = tt
 declare-feedless (and-line {t} {u} {v} {l} h hs) = (lacks-here 10 l (line-feedless h), declare-feedless hs)
+
+-- a test that was passed
+cond-ok : {X E : Type 0} (b : Bool) (r : Result X E) (e : E) (x : X) → cond b r (Err e) ≡ Ok x → (b ≡ true) × (r ≡ Ok x)
+cond-ok true r e x h = (refl, h)
+cond-ok false r e x h = not-ok h
 
 abbrev pub finished-text : List ℕ → Result Content LoadFault
 finished-text text = and-then (passed (unfinished-line 1 (split 10 text)) F.Unfinished) (λ _. lines-of (split 10 text) 1 blank)

@@ -50,7 +50,7 @@ pub data Is-record : List ℕ → Type 0 where
   point-record : {w : List ℕ} → Tabless w → Is-record (codes "point" ++ 9 ∷ w)
   order-record : (ev ef : List ℕ) (cs : List (List ℕ)) → Order-fields ev ef cs → Is-record (order-bytes ev ef cs)
 
--- why a line declares nothing beside the table of the lines above it; each cause with what passed before it. Fields count from 1, the key word
+-- why a line declares nothing beside the table of the lines above it, each cause with what passed before it; the key word is field 1
 pub data Refuses-line (t : Content) : List ℕ → LineCause → Type 0 where
   no-record : {l : List ℕ} → (Is-record l → ⊥) → Refuses-line t l C.Fields
   full-of-tags : {w : List ℕ} → Tabless w → 64 ≤ length (t .tags) → Refuses-line t (codes "tag" ++ 9 ∷ w) C.Full
@@ -63,8 +63,8 @@ pub data Refuses-line (t : Content) : List ℕ → LineCause → Type 0 where
   bad-event : (ev ef : List ℕ) (cs : List (List ℕ)) {k : Cause} → Order-fields ev ef cs → length (t .orders) < 128 → Refuses-event (t .tags) (t .points) ev k → Refuses-line t (order-bytes ev ef cs) (C.Word (record { field = 2; cause = k }))
   bad-effect : {ev : List ℕ} {e : Event} (ef : List ℕ) (cs : List (List ℕ)) {k : Cause} → Order-fields ev ef cs → length (t .orders) < 128 → Spells-event (t .tags) (t .points) ev e → Refuses-statement (t .tags) (t .points) ef k → Refuses-line t (order-bytes ev ef cs) (C.Word (record { field = 3; cause = k }))
   bad-condition : {ev ef : List ℕ} {e : Event} {f : Statement} {cs : List (List ℕ)} {ss : List Statement} (c : List ℕ) (more : List (List ℕ)) {k : Cause} → Order-fields ev ef (cs ++ c ∷ more) → length (t .orders) < 128 → Spells-event (t .tags) (t .points) ev e → Spells-statement (t .tags) (t .points) ef f → Spells-each (t .tags) (t .points) cs ss → Refuses-statement (t .tags) (t .points) c k → Refuses-line t (order-bytes ev ef (cs ++ c ∷ more)) (C.Word (record { field = length cs + 4; cause = k }))
-  literal-with-duty : {ev ef : List ℕ} {cs : List (List ℕ)} {e : Event} {f : Statement} {ss : List Statement} → Order-fields ev ef cs → length (t .orders) < 128 → Spells-event (t .tags) (t .points) ev e → Spells-statement (t .tags) (t .points) ef f → Spells-each (t .tags) (t .points) cs ss → literal-apart (ordered-so e f ss) ≡ false → Refuses-line t (order-bytes ev ef cs) C.LiteralWithDuty
-  t-not-bound : {ev ef : List ℕ} {cs : List (List ℕ)} {e : Event} {f : Statement} {ss : List Statement} → Order-fields ev ef cs → length (t .orders) < 128 → Spells-event (t .tags) (t .points) ev e → Spells-statement (t .tags) (t .points) ef f → Spells-each (t .tags) (t .points) cs ss → literal-apart (ordered-so e f ss) ≡ true → t-bound (ordered-so e f ss) ≡ false → Refuses-line t (order-bytes ev ef cs) C.UnboundT
+  literal-with-duty : {ev ef : List ℕ} {cs : List (List ℕ)} {e : Event} {f : Statement} {ss : List Statement} → Spells-event (t .tags) (t .points) ev e → Spells-statement (t .tags) (t .points) ef f → Spells-each (t .tags) (t .points) cs ss → length cs ≤ 4 → length (t .orders) < 128 → literal-apart (ordered-so e f ss) ≡ false → Refuses-line t (order-bytes ev ef cs) C.LiteralWithDuty
+  t-not-bound : {ev ef : List ℕ} {cs : List (List ℕ)} {e : Event} {f : Statement} {ss : List Statement} → Spells-event (t .tags) (t .points) ev e → Spells-statement (t .tags) (t .points) ef f → Spells-each (t .tags) (t .points) cs ss → length cs ≤ 4 → length (t .orders) < 128 → literal-apart (ordered-so e f ss) ≡ true → t-bound (ordered-so e f ss) ≡ false → Refuses-line t (order-bytes ev ef cs) C.UnboundT
 
 -- a text short enough, of plain bytes alone
 abbrev pub Readable : List ℕ → Type 0
