@@ -1,3 +1,4 @@
+#![tactic(auto)]
 // A register whose rows never move: each names the next one in duty order, and struck rows are used again.
 mod chain;
 mod find;

@@ -1,3 +1,4 @@
+#![tactic(auto)]
 // The words of the subject, as plain values: tags and points, duties, orders and rows.
 // A number that comes from outside may be anything its type admits; the definitions in specs/ say which are in range.
 mod duty;

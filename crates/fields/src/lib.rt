@@ -1,3 +1,4 @@
+#![tactic(auto)]
 // The fields of an order: dues, sets, literals, duties, events and statements, read against the names that are declared.
 mod due;
 mod duty;

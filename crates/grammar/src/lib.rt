@@ -1,3 +1,4 @@
+#![tactic(auto)]
 // The grammar of sheets, that what is read is exactly what the grammar spells, and why a field is refused.
 // Each function does nothing: its contract is a theorem about the definitions that the readers' contracts cite.
 ghost use Rattle.grammar.specs.Reads.{DuesAreReadAsSpelled, DutiesAreReadAsSpelled, EventsAreReadAsSpelled, LiteralsAreReadAsSpelled, NamesAreToldBySpelling, NumbersAreToldBySpelling, SetsAreReadAsSpelled, StatementsAreReadAsSpelled};

@@ -1,3 +1,4 @@
+#![tactic(auto)]
 // A line of a sheet: the declaration of a tag, of a point or of an order.
 mod conditions;
 mod fault;

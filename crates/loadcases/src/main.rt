@@ -1,3 +1,4 @@
+#![tactic(auto)]
 // Loads each text of a list and prints the verdict. A line of standard input is a case: a label, a space, and a text in which
 // `\n` and `\t` stand for a line feed and a tab, `\xHH` for a byte, and `{N:piece}` for a piece N times over, `#` in it being the turn from 0.
 // Prints the label and `taken` with the numbers of tags, points and orders, or `refused` with the number, the line and the field.

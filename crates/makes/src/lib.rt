@@ -1,3 +1,4 @@
+#![tactic(auto)]
 // That registers of every make work: fresh ones take a duty and give it back. So what a register means is not empty.
 mod fresh;
 mod works;

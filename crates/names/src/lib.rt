@@ -1,3 +1,4 @@
+#![tactic(auto)]
 // Names of tags and points, as small plain values, and their order.
 mod name;
 mod name_order;

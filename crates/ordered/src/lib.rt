@@ -1,3 +1,4 @@
+#![tactic(auto)]
 // Rows of a caller's slice, kept in the order of their type, and the last row with a given key.
 mod find;
 mod order;

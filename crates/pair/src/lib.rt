@@ -1,3 +1,4 @@
+#![tactic(auto)]
 // Two registers as one.
 mod pair;
 

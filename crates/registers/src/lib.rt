@@ -1,3 +1,4 @@
+#![tactic(auto)]
 // Registers: where a watch keeps the duties that are open, in memory of whatever make.
 mod register;
 mod stands;

@@ -1,3 +1,4 @@
+#![tactic(auto)]
 // Drives registers of every make through one long list of calls, from a fixed seed, and compares each answer with a plain list kept beside them.
 mod calls;
 mod drive;

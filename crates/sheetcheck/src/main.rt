@@ -1,3 +1,4 @@
+#![tactic(auto)]
 // Checks a sheet of orders, from standard input or from the file that is named as argument, and prints the verdict.
 // The first line is for programs; what follows is for people.
 mod page;

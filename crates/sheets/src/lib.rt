@@ -1,3 +1,4 @@
+#![tactic(auto)]
 // Sheets of orders. A table holds tags, points and orders; a sheet is a table that is lawful.
 mod building;
 mod sheet;

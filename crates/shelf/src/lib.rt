@@ -1,3 +1,4 @@
+#![tactic(auto)]
 // A register that keeps its rows in duty order, and moves them.
 mod shelf;
 

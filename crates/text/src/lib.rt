@@ -1,3 +1,4 @@
+#![tactic(auto)]
 // The parts of a sheet's text: pieces between separators, and in a word names, numbers and key words.
 mod number;
 mod piece;

@@ -1,3 +1,4 @@
+#![tactic(auto)]
 // What a text of orders comes to: the sheet that its lines declare, or a refusal, and that it is one of these and never both.
 mod fault;
 mod refusal;
