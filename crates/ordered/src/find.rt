@@ -14,15 +14,15 @@ pub trait Keyed<K> {
 }
 
 fn is_same<K: TotalOrder>(x: &K, y: &K) -> bool
-    ensures { result ≡ same less x.now y.now }
+    ensures { result ≡ same K.less x.now y.now }
 {
     !x.is_less(y) && !y.is_less(x)
 }
 
 // The place, from 0, of the last row with this key.
 pub fn find_last<K: TotalOrder, T: Keyed<K>>(rows: &[T], key: K) -> Option<usize>
-    ensures place { result ≡ last_place (λ row. same less (keyed row) key) rows.now }
-    ensures last { LastWith keyed rows.now key result }
+    ensures place { result ≡ last_place (λ row. same K.less (T.keyed row) key) rows.now }
+    ensures last { LastWith T.keyed rows.now key result }
 {
     let mut found = None;
     for (i, row) in rows.iter().enumerate() {

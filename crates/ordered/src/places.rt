@@ -18,8 +18,8 @@ pub(crate) fn front<T>(rows: &[T], count: usize) -> &[T]
 // The first row.
 pub(crate) fn first<T: TotalOrder>(rows: &[T]) -> Option<T>
     ensures row { result ≡ leading rows.now }
-    ensures least { rising less rows.now ≡ true → Least less (λ z. true) rows.now result }
-    ensures such { rising less rows.now ≡ true → LeastSuch less (Above less None) rows.now result }
+    ensures least { rising T.less rows.now ≡ true → Least T.less (λ z. true) rows.now result }
+    ensures such { rising T.less rows.now ≡ true → LeastSuch T.less (Above T.less None) rows.now result }
 {
     match rows {
         [] => None,
@@ -30,7 +30,7 @@ pub(crate) fn first<T: TotalOrder>(rows: &[T]) -> Option<T>
 // How many rows at the front are less than x.
 pub(crate) fn place<T: TotalOrder>(rows: &[T], x: T) -> usize
     ensures within { result ≤ length rows.now }
-    ensures place { result ≡ placed less x rows.now }
+    ensures place { result ≡ placed T.less x rows.now }
 {
     for (i, y) in rows.iter().enumerate() {
         if !y.is_less(&x) {
@@ -63,7 +63,7 @@ pub(crate) fn pop_front<T: Copy>(rows: &mut [T])
 
 // The place of x: where it is, or where it would go.
 pub(crate) fn find<T: TotalOrder>(rows: &[T], x: T) -> Result<usize, usize>
-    ensures { result ≡ found less x rows.now }
+    ensures { result ≡ found T.less x rows.now }
 {
     let at = place(rows, x);
     if at < rows.len() && !x.is_less(&rows[at]) {
@@ -74,18 +74,18 @@ pub(crate) fn find<T: TotalOrder>(rows: &[T], x: T) -> Result<usize, usize>
 
 // Whether x is one of the rows, which ascend.
 pub(crate) fn holds<T: TotalOrder>(rows: &[T], x: T) -> bool
-    ensures answer { result ≡ holding less x rows.now }
-    ensures set { rising less rows.now ≡ true → result ≡ member less x rows.now }
-    ensures decides { rising less rows.now ≡ true → Decides result (x ∈ rows.now) }
+    ensures answer { result ≡ holding T.less x rows.now }
+    ensures set { rising T.less rows.now ≡ true → result ≡ member T.less x rows.now }
+    ensures decides { rising T.less rows.now ≡ true → Decides result (x ∈ rows.now) }
 {
     find(rows, x).is_ok()
 }
 
 // The first row above x.
 pub(crate) fn above<T: TotalOrder>(rows: &[T], x: T) -> Option<T>
-    ensures row { result ≡ following less x rows.now }
-    ensures least { rising less rows.now ≡ true → Least less (less x) rows.now result }
-    ensures such { rising less rows.now ≡ true → LeastSuch less (Above less (Some x)) rows.now result }
+    ensures row { result ≡ following T.less x rows.now }
+    ensures least { rising T.less rows.now ≡ true → Least T.less (T.less x) rows.now result }
+    ensures such { rising T.less rows.now ≡ true → LeastSuch T.less (Above T.less (Some x)) rows.now result }
 {
     for y in rows {
         if x.is_less(y) {
@@ -99,11 +99,11 @@ pub(crate) fn above<T: TotalOrder>(rows: &[T], x: T) -> Option<T>
 pub(crate) fn insert_row<T: TotalOrder>(rows: &mut [T], n: usize, at: usize, x: T)
     requires within { n < length rows.old }
     requires front { at ≤ n }
-    requires fresh { found less x (take n rows.old) ≡ Err at }
-    ensures front { take (n + 1) rows.new ≡ including less x (take n rows.old) }
+    requires fresh { found T.less x (take n rows.old) ≡ Err at }
+    ensures front { take (n + 1) rows.new ≡ including T.less x (take n rows.old) }
     ensures rest { drop (n + 1) rows.new ≡ drop (n + 1) rows.old }
-    ensures ascending { rising less (take n rows.old) ≡ true → rising less (take (n + 1) rows.new) ≡ true }
-    ensures members { (z : T) → member less z (take (n + 1) rows.new) ≡ (same less z x || member less z (take n rows.old)) }
+    ensures ascending { rising T.less (take n rows.old) ≡ true → rising T.less (take (n + 1) rows.new) ≡ true }
+    ensures members { (z : T) → member T.less z (take (n + 1) rows.new) ≡ (same T.less z x || member T.less z (take n rows.old)) }
 {
     push_front(&mut rows[at..n + 1], x);
 }
@@ -112,11 +112,11 @@ pub(crate) fn insert_row<T: TotalOrder>(rows: &mut [T], n: usize, at: usize, x: 
 pub(crate) fn remove_row<T: TotalOrder>(rows: &mut [T], n: usize, at: usize, x: T)
     requires within { n ≤ length rows.old }
     requires front { at ≤ n }
-    requires there { found less x (take n rows.old) ≡ Ok at }
-    ensures front { take (n - 1) rows.new ≡ excluding less x (take n rows.old) }
+    requires there { found T.less x (take n rows.old) ≡ Ok at }
+    ensures front { take (n - 1) rows.new ≡ excluding T.less x (take n rows.old) }
     ensures rest { drop (n - 1) rows.new ≡ drop (n - 1) rows.old }
-    ensures ascending { rising less (take n rows.old) ≡ true → rising less (take (n - 1) rows.new) ≡ true }
-    ensures members { rising less (take n rows.old) ≡ true → (z : T) → member less z (take (n - 1) rows.new) ≡ (not (same less z x) && member less z (take n rows.old)) }
+    ensures ascending { rising T.less (take n rows.old) ≡ true → rising T.less (take (n - 1) rows.new) ≡ true }
+    ensures members { rising T.less (take n rows.old) ≡ true → (z : T) → member T.less z (take (n - 1) rows.new) ≡ (not (same T.less z x) && member T.less z (take n rows.old)) }
 {
     pop_front(&mut rows[at..n]);
 }

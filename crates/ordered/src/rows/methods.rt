@@ -38,32 +38,32 @@ impl<'a, T: TotalOrder> OrderedRows<'a, T> {
 
     // The place of x: where it is, or where it would go.
     fn find(&self, x: T) -> Result<usize, usize>
-        ensures { result ≡ found less x (items self.now) }
+        ensures { result ≡ found T.less x (items self.now) }
     {
         find(front(self.rows, self.count), x)
     }
 
     pub fn holds(&self, x: T) -> bool
-        ensures answer { result ≡ holding less x (items self.now) }
-        ensures set { rising less (items self.now) ≡ true → result ≡ member less x (items self.now) }
-        ensures decides { rising less (items self.now) ≡ true → Decides result (x ∈ items self.now) }
+        ensures answer { result ≡ holding T.less x (items self.now) }
+        ensures set { rising T.less (items self.now) ≡ true → result ≡ member T.less x (items self.now) }
+        ensures decides { rising T.less (items self.now) ≡ true → Decides result (x ∈ items self.now) }
     {
         holds(front(self.rows, self.count), x)
     }
 
     // The first row above x.
     pub fn after(&self, x: T) -> Option<T>
-        ensures row { result ≡ following less x (items self.now) }
-        ensures least { rising less (items self.now) ≡ true → Least less (less x) (items self.now) result }
-        ensures such { rising less (items self.now) ≡ true → LeastSuch less (Above less (Some x)) (items self.now) result }
+        ensures row { result ≡ following T.less x (items self.now) }
+        ensures least { rising T.less (items self.now) ≡ true → Least T.less (T.less x) (items self.now) result }
+        ensures such { rising T.less (items self.now) ≡ true → LeastSuch T.less (Above T.less (Some x)) (items self.now) result }
     {
         above(front(self.rows, self.count), x)
     }
 
     pub fn first(&self) -> Option<T>
         ensures row { result ≡ leading (items self.now) }
-        ensures least { rising less (items self.now) ≡ true → Least less (λ z. true) (items self.now) result }
-        ensures such { rising less (items self.now) ≡ true → LeastSuch less (Above less None) (items self.now) result }
+        ensures least { rising T.less (items self.now) ≡ true → Least T.less (λ z. true) (items self.now) result }
+        ensures such { rising T.less (items self.now) ≡ true → LeastSuch T.less (Above T.less None) (items self.now) result }
     {
         first(front(self.rows, self.count))
     }
@@ -86,12 +86,12 @@ impl<'a, T: TotalOrder> OrderedRows<'a, T> {
 
     // x, which is not there, goes to its place.
     fn insert_at(&mut self, at: usize, x: T)
-        requires fresh { found less x (items self.old) ≡ Err at }
+        requires fresh { found T.less x (items self.old) ≡ Err at }
         requires within { length (items self.old) < capacity self.old }
-        ensures rows { items self.new ≡ including less x (items self.old) }
+        ensures rows { items self.new ≡ including T.less x (items self.old) }
         ensures spare { drop (length (items self.new)) self.new.rows.now ≡ drop (length (items self.new)) self.old.rows.now }
         ensures room { capacity self.new ≡ capacity self.old }
-        ensures ascending { rising less (items self.old) ≡ true → rising less (items self.new) ≡ true }
+        ensures ascending { rising T.less (items self.old) ≡ true → rising T.less (items self.new) ≡ true }
     {
         let n = self.used();
         insert_row(self.rows, n, at, x);
@@ -100,14 +100,14 @@ impl<'a, T: TotalOrder> OrderedRows<'a, T> {
 
     // x goes to its place; false, with nothing changed, where there is no room for it.
     pub fn insert(&mut self, x: T) -> bool
-        ensures answer { result ≡ (holding less x (items self.old) || nat_lt (length (items self.old)) (capacity self.old)) }
-        ensures rows { items self.new ≡ (if result then including less x (items self.old) else items self.old) }
-        ensures set { rising less (items self.old) ≡ true → Entered x result (items self.old) (items self.new) (capacity self.old) }
-        ensures unchanged { rising less (items self.old) ≡ true → (result ≡ false) ⊎ (x ∈ items self.old) → self.new ≡ self.old }
+        ensures answer { result ≡ (holding T.less x (items self.old) || nat_lt (length (items self.old)) (capacity self.old)) }
+        ensures rows { items self.new ≡ (if result then including T.less x (items self.old) else items self.old) }
+        ensures set { rising T.less (items self.old) ≡ true → Entered x result (items self.old) (items self.new) (capacity self.old) }
+        ensures unchanged { rising T.less (items self.old) ≡ true → (result ≡ false) ⊎ (x ∈ items self.old) → self.new ≡ self.old }
         ensures spare { (n : ℕ) → length (items self.new) ≤ n → drop n self.new.rows.now ≡ drop n self.old.rows.now }
         ensures room { capacity self.new ≡ capacity self.old }
-        ensures ascending { rising less (items self.old) ≡ true → rising less (items self.new) ≡ true }
-        ensures members { result ≡ true → (z : T) → member less z (items self.new) ≡ (same less z x || member less z (items self.old)) }
+        ensures ascending { rising T.less (items self.old) ≡ true → rising T.less (items self.new) ≡ true }
+        ensures members { result ≡ true → (z : T) → member T.less z (items self.new) ≡ (same T.less z x || member T.less z (items self.old)) }
     {
         let room = self.room();
         self.insert_up_to(room, x)
@@ -115,14 +115,14 @@ impl<'a, T: TotalOrder> OrderedRows<'a, T> {
 
     // The same where at most so many rows may be in use.
     pub fn insert_up_to(&mut self, limit: usize, x: T) -> bool
-        ensures answer { result ≡ (holding less x (items self.old) || nat_lt (length (items self.old)) (min (capacity self.old) limit)) }
-        ensures rows { items self.new ≡ (if result then including less x (items self.old) else items self.old) }
-        ensures set { rising less (items self.old) ≡ true → length (items self.old) ≤ min (capacity self.old) limit → Entered x result (items self.old) (items self.new) (min (capacity self.old) limit) }
+        ensures answer { result ≡ (holding T.less x (items self.old) || nat_lt (length (items self.old)) (min (capacity self.old) limit)) }
+        ensures rows { items self.new ≡ (if result then including T.less x (items self.old) else items self.old) }
+        ensures set { rising T.less (items self.old) ≡ true → length (items self.old) ≤ min (capacity self.old) limit → Entered x result (items self.old) (items self.new) (min (capacity self.old) limit) }
         ensures fits { length (items self.old) ≤ min (capacity self.old) limit → length (items self.new) ≤ min (capacity self.old) limit }
-        ensures unchanged { rising less (items self.old) ≡ true → (result ≡ false) ⊎ (x ∈ items self.old) → self.new ≡ self.old }
+        ensures unchanged { rising T.less (items self.old) ≡ true → (result ≡ false) ⊎ (x ∈ items self.old) → self.new ≡ self.old }
         ensures spare { (n : ℕ) → length (items self.new) ≤ n → drop n self.new.rows.now ≡ drop n self.old.rows.now }
         ensures room { capacity self.new ≡ capacity self.old }
-        ensures ascending { rising less (items self.old) ≡ true → rising less (items self.new) ≡ true }
+        ensures ascending { rising T.less (items self.old) ≡ true → rising T.less (items self.new) ≡ true }
     {
         let Err(at) = self.find(x) else {
             return true;
@@ -136,11 +136,11 @@ impl<'a, T: TotalOrder> OrderedRows<'a, T> {
 
     // x, which is there, leaves.
     fn remove_at(&mut self, at: usize, x: T)
-        requires there { found less x (items self.old) ≡ Ok at }
-        ensures rows { items self.new ≡ excluding less x (items self.old) }
+        requires there { found T.less x (items self.old) ≡ Ok at }
+        ensures rows { items self.new ≡ excluding T.less x (items self.old) }
         ensures spare { drop (length (items self.new)) self.new.rows.now ≡ drop (length (items self.new)) self.old.rows.now }
         ensures room { capacity self.new ≡ capacity self.old }
-        ensures ascending { rising less (items self.old) ≡ true → rising less (items self.new) ≡ true }
+        ensures ascending { rising T.less (items self.old) ≡ true → rising T.less (items self.new) ≡ true }
     {
         let n = self.used();
         let left = n - 1;
@@ -150,15 +150,15 @@ impl<'a, T: TotalOrder> OrderedRows<'a, T> {
 
     // x leaves; false, with nothing changed, where it was not there.
     pub fn remove(&mut self, x: T) -> bool
-        ensures answer { result ≡ holding less x (items self.old) }
-        ensures rows { items self.new ≡ excluding less x (items self.old) }
-        ensures set { rising less (items self.old) ≡ true → Struck x result (items self.old) (items self.new) }
+        ensures answer { result ≡ holding T.less x (items self.old) }
+        ensures rows { items self.new ≡ excluding T.less x (items self.old) }
+        ensures set { rising T.less (items self.old) ≡ true → Struck x result (items self.old) (items self.new) }
         ensures fewer { length (items self.new) ≤ length (items self.old) }
         ensures unchanged { result ≡ false → self.new ≡ self.old }
         ensures spare { (n : ℕ) → length (items self.new) ≤ n → drop n self.new.rows.now ≡ drop n self.old.rows.now }
         ensures room { capacity self.new ≡ capacity self.old }
-        ensures ascending { rising less (items self.old) ≡ true → rising less (items self.new) ≡ true }
-        ensures members { rising less (items self.old) ≡ true → (z : T) → member less z (items self.new) ≡ (not (same less z x) && member less z (items self.old)) }
+        ensures ascending { rising T.less (items self.old) ≡ true → rising T.less (items self.new) ≡ true }
+        ensures members { rising T.less (items self.old) ≡ true → (z : T) → member T.less z (items self.new) ≡ (not (same T.less z x) && member T.less z (items self.old)) }
     {
         let Ok(at) = self.find(x) else {
             return false;

@@ -6,18 +6,18 @@ use Rattle.ordered.specs.Finding.{last_place, LastWith}
 use Rattle.ordered.proofs.Last.{last_more, last_with}
 use Rattle.ordered.proofs.Sets.{same_is, same_refl}
 use Rattle.ordered.proofs.find.find_last.Goals as goal
-use Rattle.ordered.proofs.find.find_last.Goals.{then-is-same, else-is-same}
+use Rattle.ordered.proofs.find.find_last.Goals.{then-is_same, else-is_same}
 
 pub loop-i-preserved : goal.loop-i-preserved
 loop-i-preserved g c =
     let less = g.K.TotalOrder.less in
     let keyed = g.T.Keyed.keyed in
     let row = c.index-rows-i.result in
-    let test : same less (keyed row) c.args.key ≡ c.is-same.result = ap (λ v. same less v c.args.key) (sym c.key-found-key.ensures) ∙ sym c.is-same.ensures in
-    let turn = last_more (λ r. same less (keyed r) c.args.key) c.args.rows.now row c.loop-i.i c.is-same.result c.loop-i-test.true c.index-rows-i.is test in
-    elim c.if-is-same.branch [
-      | then-is-same w ↦ w.found-is ∙ sym (turn ∙ cond-true _ _ _ w.if-is-same.true)
-      | else-is-same w ↦ w.found-is ∙ c.loop-i.invariant ∙ sym (turn ∙ cond-false _ _ _ w.if-is-same.false)
+    let test : same less (keyed row) c.args.key ≡ c.is_same.result = ap (λ v. same less v c.args.key) (sym c.key-found_key.ensures) ∙ sym c.is_same.ensures in
+    let turn = last_more (λ r. same less (keyed r) c.args.key) c.args.rows.now row c.loop-i.i c.is_same.result c.loop-i-test.true c.index-rows-i.is test in
+    elim c.if-is_same.branch [
+      | then-is_same w ↦ w.found-is ∙ sym (turn ∙ cond-true _ _ _ w.if-is_same.true)
+      | else-is_same w ↦ w.found-is ∙ c.loop-i.invariant ∙ sym (turn ∙ cond-false _ _ _ w.if-is_same.false)
     ]
 
 pub returns : goal.returns

@@ -12,7 +12,7 @@ returns g c =
     let o = g.met.T.TotalOrder in
     let less = g.T.TotalOrder.less in
     let xs = c.args.rows.now in
-    let is = c.is-ok.ensures.value ∙ ap is_ok c.find.ensures ∙ ok_where _ _ _ in
+    let is = c.is_ok.ensures.value ∙ ap is_ok c.find.ensures ∙ ok_where _ _ _ in
     record {
       answer = is;
       set = λ k. is ∙ holding_member less o.irreflexive o.transitive o.total c.args.x xs k;

@@ -13,13 +13,13 @@ returns g c =
     let n = c.args.n in
     let x = c.args.x in
     let p = c.args.at in
-    let ys = c.push-front.new.rows in
+    let ys = c.push_front.new.rows in
     let at = found_absent less x (take n s) p c.requires.fresh in
     let new = including_new less x (take n s) at.1 in
-    let is = insert_front s p n c.requires.front x ys c.requires.within c.push-front.ensures ∙ ap (λ k. take k (take n s) ++ (x ∷ drop k (take n s))) at.0 ∙ sym new in
+    let is = insert_front s p n c.requires.front x ys c.requires.within c.push_front.ensures ∙ ap (λ k. take k (take n s) ++ (x ∷ drop k (take n s))) at.0 ∙ sym new in
     record {
       front = is;
-      rest = insert_rest s p n c.requires.front x ys c.requires.within c.push-front.ensures;
+      rest = insert_rest s p n c.requires.front x ys c.requires.within c.push_front.ensures;
       ascending = λ h. ap (rising less) is ∙ rising_including less o.irreflexive o.transitive o.total x (take n s) h;
       members = λ z. ap (member less z) is ∙ member_including less o.irreflexive o.transitive o.total z x (take n s);
     }

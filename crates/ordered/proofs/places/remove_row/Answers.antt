@@ -14,14 +14,14 @@ returns g c =
     let n = c.args.n in
     let x = c.args.x in
     let p = c.args.at in
-    let ys = c.pop-front.new.rows in
+    let ys = c.pop_front.new.rows in
     let at = found_there less x (take n s) p c.requires.there in
     let more : p < n = omega (arith, at.0, placed_held less x (take n s) at.1, length-take-le n s c.requires.within) in
     let old = excluding_old less x (take n s) at.1 in
-    let is = remove_front s p n c.requires.front ys more c.requires.within c.pop-front.ensures ∙ ap (λ k. take k (take n s) ++ drop (k + 1) (take n s)) at.0 ∙ sym old in
+    let is = remove_front s p n c.requires.front ys more c.requires.within c.pop_front.ensures ∙ ap (λ k. take k (take n s) ++ drop (k + 1) (take n s)) at.0 ∙ sym old in
     record {
       front = is;
-      rest = remove_rest s p n c.requires.front ys more c.requires.within c.pop-front.ensures;
+      rest = remove_rest s p n c.requires.front ys more c.requires.within c.pop_front.ensures;
       ascending = λ h. ap (rising less) is ∙ rising_excluding less o.irreflexive o.transitive o.total x (take n s) h;
       members = λ h z. ap (member less z) is ∙ member_excluding less o.irreflexive o.transitive o.total z x (take n s) h;
     }

@@ -14,12 +14,12 @@ returns g c =
     let x = c.args.x in
     let s = c.args.self.now.rows.now in
     let xs = items c.args.self.now in
-    let did = c.insert-up-to.ensures in
+    let did = c.insert_up_to.ensures in
     let all : min (length s) c.room-room.result ≡ length s = omega arith in
     record {
       answer = did.answer ∙ ap (λ n. holding less x xs || ltb (length xs) n) all;
       rows = did.rows;
-      set = λ up. subst (Entered x c.insert-up-to.result xs (items c.insert-up-to.new.self)) all (did.set up (omega (arith, length-take c.args.self.now.count s)));
+      set = λ up. subst (Entered x c.insert_up_to.result xs (items c.insert_up_to.new.self)) all (did.set up (omega (arith, length-take c.args.self.now.count s)));
       unchanged = did.unchanged;
       spare = did.spare;
       room = did.room;

@@ -4,8 +4,8 @@ use Rattle.ordered.specs.Rows.{items}
 use Rattle.ordered.proofs.Walks.{placed_within, found_absent}
 use Rattle.ordered.proofs.rows.OrderedRows.insert_at.Goals as goal
 
-pub insert-row-requires : goal.insert-row-requires
-insert-row-requires g c =
+pub insert_row-requires : goal.insert_row-requires
+insert_row-requires g c =
     let less = g.T.TotalOrder.less in
     let x = c.args.x in
     let xs = items c.args.self.now in

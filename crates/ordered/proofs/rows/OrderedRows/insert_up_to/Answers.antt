@@ -6,14 +6,14 @@ use Rattle.ordered.proofs.Shift.{same_past}
 use Rattle.ordered.proofs.Walks.{found_there, found_absent, including_old}
 use Rattle.ordered.proofs.rows.OrderedRows.insert_up_to.Goals as goal
 
-pub returns-in-default : goal.returns-in-default
-returns-in-default g c =
+pub returns-in_default : goal.returns-in_default
+returns-in_default g c =
     let o = g.met.T.TotalOrder in
     let less = g.T.TotalOrder.less in
     let x = c.args.x in
     let xs = items c.args.self.now in
     let room = min (length c.args.self.now.rows.now) c.args.limit in
-    let there = (found_there less x xs c.in-default.field-0 (sym c.find.ensures ∙ c.in-default.is)).1 in
+    let there = (found_there less x xs c.in_default.field-0 (sym c.find.ensures ∙ c.in_default.is)).1 in
     let answer = sym (or_left _ _ there) in
     let is = sym (including_old less x xs there) in
     record {
@@ -27,15 +27,15 @@ returns-in-default g c =
       ascending = λ h. h;
     }
 
-pub returns-then-is-full : goal.returns-then-is-full
-returns-then-is-full g c =
+pub returns-then-is_full : goal.returns-then-is_full
+returns-then-is_full g c =
     let o = g.met.T.TotalOrder in
     let less = g.T.TotalOrder.less in
     let x = c.args.x in
     let xs = items c.args.self.now in
     let room = min (length c.args.self.now.rows.now) c.args.limit in
     let absent = (found_absent less x xs c.in-Err.at (sym c.find.ensures ∙ c.in-Err.is)).1 in
-    let answer = sym (or_from _ _ absent (not-true _ (sym c.if-is-full.ensures))) in
+    let answer = sym (or_from _ _ absent (not-true _ (sym c.if-is_full.ensures))) in
     record {
       answer = answer;
       rows = refl;
@@ -53,18 +53,18 @@ returns g c =
     let less = g.T.TotalOrder.less in
     let x = c.args.x in
     let xs = items c.args.self.now in
-    let xs' = items c.insert-at.new.self in
+    let xs' = items c.insert_at.new.self in
     let room = min (length c.args.self.now.rows.now) c.args.limit in
     let absent = (found_absent less x xs c.in-Err.at (sym c.find.ensures ∙ c.in-Err.is)).1 in
-    let did = c.insert-at.ensures in
-    let answer = sym (or_right _ _ (not-false _ (sym c.if-is-full.ensures))) in
+    let did = c.insert_at.ensures in
+    let answer = sym (or_right _ _ (not-false _ (sym c.if-is_full.ensures))) in
     record {
       answer = answer;
       rows = did.rows;
       set = λ up f. entered less o.irreflexive o.transitive o.total x xs up room f true xs' answer did.rows;
       fits = λ f. entered_fits less x xs room f true xs' answer did.rows;
       unchanged = λ up h. elim h [ inl e ↦ absurd (both_ways true e refl) | inr m ↦ absurd (both_ways _ absent ((held less o.irreflexive o.transitive o.total x xs up).1 m)) ];
-      spare = λ n f. same_past _ _ (length (items c.insert-at.new.self)) n f did.spare;
+      spare = λ n f. same_past _ _ (length (items c.insert_at.new.self)) n f did.spare;
       room = did.room;
       ascending = did.ascending;
     }

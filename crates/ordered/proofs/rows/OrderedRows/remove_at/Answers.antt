@@ -4,8 +4,8 @@ use Rattle.ordered.specs.Rows.{items}
 use Rattle.ordered.proofs.Walks.{placed_within, placed_held, found_there}
 use Rattle.ordered.proofs.rows.OrderedRows.remove_at.Goals as goal
 
-pub remove-row-requires : goal.remove-row-requires
-remove-row-requires g c =
+pub remove_row-requires : goal.remove_row-requires
+remove_row-requires g c =
     let less = g.T.TotalOrder.less in
     let x = c.args.x in
     let xs = items c.args.self.now in
@@ -15,8 +15,8 @@ remove-row-requires g c =
       there = ap (found less x) c.used-n.ensures.front ∙ c.requires.there;
     }
 
-pub overflow-sub-left : goal.overflow-sub-left
-overflow-sub-left g c =
+pub overflow_sub-left : goal.overflow_sub-left
+overflow_sub-left g c =
     let less = g.T.TotalOrder.less in
     let x = c.args.x in
     let xs = items c.args.self.now in
