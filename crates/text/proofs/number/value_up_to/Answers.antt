@@ -7,7 +7,7 @@ returns-then-n-limit c = search (rules, over)
 
 pub loop-d-preserved : goal.loop-d-preserved
 loop-d-preserved c =
-    let d = c.from.ensures ∙ c.saturating-sub.ensures in
+    let d = c.from.ensures ∙ c.saturating_sub.ensures in
     (rw d (value_more _ _ _ c.loop-d.invariant.0 c.loop-d-test.true), omega arith)
 
 pub returns-then-n-limit-2 : goal.returns-then-n-limit-2
