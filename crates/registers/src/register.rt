@@ -70,10 +70,10 @@ pub trait Register {
 
 // The register with no duty in it, whatever it held.
 pub fn emptied<R: Register>(mut register: R) -> R
-    ensures none { duties result ≡ [] }
-    ensures room { places result ≡ places register }
-    ensures spares { spares register result }
-    ensures sound { sound result }
+    ensures none { R.duties result ≡ [] }
+    ensures room { R.places result ≡ R.places register }
+    ensures spares { R.spares register result }
+    ensures sound { R.sound result }
 {
     register.clear();
     register
