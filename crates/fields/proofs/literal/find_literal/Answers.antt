@@ -6,4 +6,4 @@ use Rattle.fields.proofs.literal.find_literal.Goals as goal
 
 pub returns-in-33 : goal.returns-in-33
 returns-in-33 c =
-    by_some _ _ _ (past_front (codes "!") c.args.word.now (grind (arith, nat_tests)) (grind (arith, nat_tests), tt)) c.find-denied.ensures
+    by_some _ _ _ (past_front (codes "!") c.args.word.now (grind (arith, nat_tests)) (grind (arith, nat_tests), tt)) c.find_denied.ensures

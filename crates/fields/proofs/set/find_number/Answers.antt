@@ -12,10 +12,10 @@ numbered : (f : ℕ) (ns : List Name) (w : List ℕ) {o : Option ℕ} {n : Name}
 numbered f ns w e h =
     ap (λ o. placed f (declared_at o)) (e ∙ ap (λ k. last_place (λ m. same name_before m k) ns) h)
 
-pub returns-in-default : goal.returns-in-default
-returns-in-default c =
+pub returns-in_default : goal.returns-in_default
+returns-in_default c =
     record {
-      value = numbered c.args.field c.args.names.now c.args.wanted.now c.in-default.ensures.place c.of.ensures;
+      value = numbered c.args.field c.args.names.now c.args.wanted.now c.in_default.ensures.place c.of.ensures;
       below = tt;
     }
 
