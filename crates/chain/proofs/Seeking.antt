@@ -2,7 +2,7 @@
 use Rattle.std.proofs.Common.{◌≡◌, ℕ, zero, suc, ◌-◌, ◌<◌, ◌≤◌, true, false, cond, ltb, List, [], ◌∷◌, length, Some, None, Option, sym, refl, ap, ◌∙◌, subst, inl, inr, arith}
 use Rattle.std.proofs.lemmas.Bool.{both_ways, cond-true, cond-false, lt-ltb, le-ltb, ltb-true}
 use Rattle.ordered.specs.Ascending.{◌∈◌, rising, Above, LeastSuch}
-use Rattle.ordered.proofs.Sets.{following_least, leading_least}
+use Rattle.ordered.proofs.Sets.{following_such, leading_such}
 use Rattle.duties.specs.Duties.{before}
 use Rattle.duties.specs.declared.duty.Duty.{Duty}
 use Rattle.duties.specs.DutyLaws.{before_irreflexive, before_transitive, before_total}
@@ -63,8 +63,8 @@ above_here (Some d) e es = refl
 
 -- it is the least of them in a list that ascends
 pub above_least : (from : Option Duty) (es : List Duty) → rising before es ≡ true → LeastSuch before (Above before from) es (next_above from es)
-above_least None es = leading_least before before_irreflexive before_transitive before_total es
-above_least (Some d) es = following_least before before_irreflexive before_transitive before_total d es
+above_least None es = leading_such before before_irreflexive before_transitive before_total es
+above_least (Some d) es = following_such before before_irreflexive before_transitive before_total d es
 
 pub above_none : (from : Option Duty) (rows : List Link) (p k : ℕ) → k ≤ 0 → next_above from (duties_at rows (walk rows p k)) ≡ None
 above_none from rows p k h =

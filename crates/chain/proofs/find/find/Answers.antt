@@ -5,16 +5,16 @@ use Rattle.chain.proofs.find.find.Goals as goal
 
 pub loop-left-preserved : goal.loop-left-preserved
 loop-left-preserved c =
-    spot_turn c.args.rows.now c.args.d c.loop-left.prev c.loop-left.at c.loop-left.left c.loop-left-test.true c.if-at-rows.true c.row-at-row.result c.row-at-row.ensures c.if-not-is-before.ensures
+    spot_turn c.args.rows.now c.args.d c.loop-left.prev c.loop-left.at c.loop-left.left c.loop-left-test.true c.if-at-rows.true c.row_at-row.result c.row_at-row.ensures c.if-not-is_before.ensures
     ∙ c.loop-left.invariant
 
-pub returns-then-not-is-before : goal.returns-then-not-is-before
-returns-then-not-is-before c =
+pub returns-then-not-is_before : goal.returns-then-not-is_before
+returns-then-not-is_before c =
     let rows = c.args.rows.now in
-    let is = c.stop-at.ensures
-    ∙ spot_stop rows c.args.d c.loop-left.prev c.loop-left.at c.loop-left.left c.loop-left-test.true c.if-at-rows.true c.row-at-row.result c.row-at-row.ensures c.if-not-is-before.ensures
+    let is = c.stop_at.ensures
+    ∙ spot_stop rows c.args.d c.loop-left.prev c.loop-left.at c.loop-left.left c.loop-left-test.true c.if-at-rows.true c.row_at-row.result c.row_at-row.ensures c.if-not-is_before.ensures
     ∙ c.loop-left.invariant in
-    let s = sure rows c.args.d c.args.head c.args.count c.stop-at.result is in
+    let s = sure rows c.args.d c.args.head c.args.count c.stop_at.result is in
     record { spot = is; prev = s.prev; own = s.own }
 
 pub returns-else-at-rows : goal.returns-else-at-rows

@@ -6,13 +6,13 @@ pub loop-left-preserved : goal.loop-left-preserved
 loop-left-preserved c = λ h.
     let rows = c.args.rows.now in
     let i = c.loop-left.invariant h in (
-      inside_turn rows c.loop-left.at c.loop-left.left c.loop-left-test.true c.row-at-row.result c.row-at-row.ensures i.0,
-      above_turn rows c.loop-left.at c.loop-left.left c.loop-left-test.true c.row-at-row.result c.row-at-row.ensures c.args.from c.if-is-above.ensures ∙ i.1,
+      inside_turn rows c.loop-left.at c.loop-left.left c.loop-left-test.true c.row_at-row.result c.row_at-row.ensures i.0,
+      above_turn rows c.loop-left.at c.loop-left.left c.loop-left-test.true c.row_at-row.result c.row_at-row.ensures c.args.from c.if-is_above.ensures ∙ i.1,
     )
 
-pub returns-then-is-above : goal.returns-then-is-above
-returns-then-is-above c = λ h.
-    above_stop c.args.rows.now c.loop-left.at c.loop-left.left c.loop-left-test.true c.row-at-row.result c.row-at-row.ensures c.args.from c.if-is-above.ensures ∙ (c.loop-left.invariant h).1
+pub returns-then-is_above : goal.returns-then-is_above
+returns-then-is_above c = λ h.
+    above_stop c.args.rows.now c.loop-left.at c.loop-left.left c.loop-left-test.true c.row_at-row.result c.row_at-row.ensures c.args.from c.if-is_above.ensures ∙ (c.loop-left.invariant h).1
 
 pub returns-else-at-rows : goal.returns-else-at-rows
 returns-else-at-rows c = λ h.

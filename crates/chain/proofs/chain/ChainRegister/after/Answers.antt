@@ -11,4 +11,4 @@ returns c = λ k.
     let rows = c.args.self.now.rows.now in
     let e = c.args.self.now.ends in
     let from = c.args.from in
-    subst (LeastSuch before (Above before from) (chained rows e)) (sym (c.first-above.ensures (used_inside rows e k))) (above_least from (chained rows e) k.lawful.ascending)
+    subst (LeastSuch before (Above before from) (chained rows e)) (sym (c.first_above.ensures (used_inside rows e k))) (above_least from (chained rows e) k.lawful.ascending)

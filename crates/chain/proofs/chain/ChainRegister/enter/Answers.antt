@@ -23,13 +23,13 @@ returns-then-spot c =
       still = λ k. (done k).still;
     }
 
-pub returns-in-default : goal.returns-in-default
-returns-in-default c =
+pub returns-in_default : goal.returns-in_default
+returns-in_default c =
     let rows = c.args.self.now.rows.now in
     let e = c.args.self.now.ends in
     let d = c.args.d in
     let s = c.find-spot.result in
-    let done : Linked rows e → Enters rows e d false rows e = λ k. enters_not rows e d s k (cut_at rows e d s k c.find-spot.ensures.spot) c.if-spot.false c.in-default.ensures in
+    let done : Linked rows e → Enters rows e d false rows e = λ k. enters_not rows e d s k (cut_at rows e d s k c.find-spot.ensures.spot) c.if-spot.false c.in_default.ensures in
     record {
       does = λ k. (done k).does;
       unchanged = λ k h. refl;
@@ -46,11 +46,11 @@ returns c =
     let d = c.args.d in
     let s = c.find-spot.result in
     let spare = c.in-Some.ensures in
-    let rows' = c.link-in.new.rows in
-    let e' = c.ends-with-self.result in
+    let rows' = c.link_in.new.rows in
+    let e' = c.ends_with-self.result in
     let done : Linked rows e → Enters rows e d true rows' e' =
-    λ k. subst (λ (l : List Link). Enters rows e d true l e') (sym c.link-in.ensures)
-    (subst (Enters rows e d true (linked_in rows s.prev e.free s.at d)) (sym (c.ends-with-self.ensures ∙ ap (ends_with e s.prev e.free) spare.2))
+    λ k. subst (λ (l : List Link). Enters rows e d true l e') (sym c.link_in.ensures)
+    (subst (Enters rows e d true (linked_in rows s.prev e.free s.at d)) (sym (c.ends_with-self.ensures ∙ ap (ends_with e s.prev e.free) spare.2))
     (enters rows e d s k (cut_at rows e d s k c.find-spot.ensures.spot) c.if-spot.false spare.0)) in
     let same : length rows' ≡ length rows = omega arith in
     record {

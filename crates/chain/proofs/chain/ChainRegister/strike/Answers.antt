@@ -29,11 +29,11 @@ returns c =
     let e = c.args.self.now.ends in
     let d = c.args.d in
     let s = c.find-spot.result in
-    let rows' = c.take-out-to.new.rows in
-    let e' = c.ends-without-self.result in
+    let rows' = c.take_out-to.new.rows in
+    let e' = c.ends_without-self.result in
     let done : Linked rows e → Strikes rows e d true rows' e' =
-    λ k. subst (λ (l : List Link). Strikes rows e d true l e') (sym c.take-out-to.ensures.rows)
-    (subst (Strikes rows e d true (taken_out rows s.prev s.at e.free)) (sym (c.ends-without-self.ensures ∙ ap (ends_without_lem e s.prev s.at) c.take-out-to.ensures.behind))
+    λ k. subst (λ (l : List Link). Strikes rows e d true l e') (sym c.take_out-to.ensures.rows)
+    (subst (Strikes rows e d true (taken_out rows s.prev s.at e.free)) (sym (c.ends_without-self.ensures ∙ ap (ends_without_lem e s.prev s.at) c.take_out-to.ensures.behind))
     (strikes rows e d s k (cut_at rows e d s k c.find-spot.ensures.spot) (not-false _ c.if-not-spot.false))) in
     let same : length rows' ≡ length rows = omega arith in
     record {
