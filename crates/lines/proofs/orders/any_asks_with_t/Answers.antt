@@ -6,8 +6,8 @@ use Rattle.lines.proofs.orders.any_asks_with_t.Goals as goal
 pub loop-condition-preserved : goal.loop-condition-preserved
 loop-condition-preserved c = search (rules, some_more asks_with_t_lem)
 
-pub returns-then-asks-with-t : goal.returns-then-asks-with-t
-returns-then-asks-with-t c = search (rules, some_here asks_with_t_lem)
+pub returns-then-asks_with_t : goal.returns-then-asks_with_t
+returns-then-asks_with_t c = search (rules, some_here asks_with_t_lem)
 
 pub returns : goal.returns
 returns c = search (rules, some_none asks_with_t_lem)

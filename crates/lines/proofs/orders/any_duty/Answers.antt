@@ -6,8 +6,8 @@ use Rattle.lines.proofs.orders.any_duty.Goals as goal
 pub loop-condition-preserved : goal.loop-condition-preserved
 loop-condition-preserved c = search (rules, some_more duty_condition)
 
-pub returns-then-is-duty-condition : goal.returns-then-is-duty-condition
-returns-then-is-duty-condition c = search (rules, some_here duty_condition)
+pub returns-then-is_duty_condition : goal.returns-then-is_duty_condition
+returns-then-is_duty_condition c = search (rules, some_here duty_condition)
 
 pub returns : goal.returns
 returns c = search (rules, some_none duty_condition)
