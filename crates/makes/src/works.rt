@@ -6,8 +6,8 @@ use registers::Register;
 
 // Whether the register takes the duty and then has just that.
 fn takes<R: Register>(register: &mut R, d: Duty) -> bool
-    ensures took { sound register.old → duties register.old ≡ [] → 0 < places register.old → (result ≡ true) × (duties register.new ≡ d ∷ []) }
-    ensures stays { sound register.old → sound register.new }
+    ensures took { R.sound register.old → R.duties register.old ≡ [] → 0 < R.places register.old → (result ≡ true) × (R.duties register.new ≡ d ∷ []) }
+    ensures stays { R.sound register.old → R.sound register.new }
 {
     if !register.enter(d) {
         return false;
@@ -20,7 +20,7 @@ fn takes<R: Register>(register: &mut R, d: Duty) -> bool
 
 // Whether the register gives the duty back and then has none.
 fn gives_back<R: Register>(register: &mut R, d: Duty) -> bool
-    ensures gave { sound register.old → duties register.old ≡ d ∷ [] → (result ≡ true) × (duties register.new ≡ []) }
+    ensures gave { R.sound register.old → R.duties register.old ≡ d ∷ [] → (result ≡ true) × (R.duties register.new ≡ []) }
 {
     if !register.strike(d) {
         return false;
@@ -33,7 +33,7 @@ fn gives_back<R: Register>(register: &mut R, d: Duty) -> bool
 
 // Whether the register takes the duty and gives it back.
 pub(crate) fn works<R: Register>(register: &mut R, d: Duty) -> bool
-    ensures { sound register.old → duties register.old ≡ [] → 0 < places register.old → result ≡ true }
+    ensures { R.sound register.old → R.duties register.old ≡ [] → 0 < R.places register.old → result ≡ true }
 {
     if !takes(register, d) {
         return false;

@@ -22,5 +22,5 @@ returns g c = record {
   gave = λ s e.
       let did = c.strike.ensures in
       let left = (gave c.args.d c.strike.result _ _ e (did.does s)).1 in
-      (not-false _ (sym c.is-none.ensures ∙ none_after _ c.after.result left (c.after.ensures (did.stays s))), left);
+      (not-false _ (sym c.is_none.ensures ∙ none_after _ c.after.result left (c.after.ensures (did.stays s))), left);
 }
