@@ -1,20 +1,9 @@
 -- What including, excluding and holding are at the place of x. Assumes nothing of the order.
-use Rattle.std.proofs.Common.{◌≡◌, ℕ, suc, ◌+◌, ◌<◌, ◌≤◌, Bool, true, false, cond, not, List, [], ◌∷◌, ◌++◌, length, get_or, take, drop, Ok, Err, refl, ap, ◌∙◌, arith}
+use Rattle.std.proofs.Common.{◌≡◌, ℕ, suc, ◌+◌, ◌<◌, ◌≤◌, Bool, true, false, cond, not, List, [], ◌∷◌, ◌++◌, length, get_or, take, drop, refl, ap, ◌∙◌, arith}
 use Rattle.std.proofs.lemmas.Bool.{not-false, not-true, both_ways}
-use Rattle.ordered.specs.Ascending.{placed, found, including, excluding, holding}
+use Rattle.ordered.specs.Ascending.{placed, including, excluding, holding}
 
 module _ {X : Type 0} (less : X → X → Bool) (x : X) where
-  pub placed_within : (xs : List X) → placed less x xs ≤ length xs
-  placed_within [] = omega arith
-  placed_within (y ∷ ys) = elim (less y x) as (λ b. cond b (suc (placed less x ys)) 0 ≤ suc (length ys)) [ true ↦ omega (arith, placed_within ys) | false ↦ omega arith ]
-
-  -- what is found tells the place, and whether x is there
-  pub found_there : (xs : List X) (at : ℕ) → found less x xs ≡ Ok at → (at ≡ placed less x xs) × (holding less x xs ≡ true)
-  found_there xs at = elim (holding less x xs) as (λ b. cond b (Ok (placed less x xs)) (Err (placed less x xs)) ≡ Ok at → (at ≡ placed less x xs) × (b ≡ true)) [ true ↦ λ e. (cc, refl) | false ↦ λ e. let z : ◌≡◌ {A = ℕ} 0 1 = cc in absurd (omega arith) ]
-
-  pub found_absent : (xs : List X) (at : ℕ) → found less x xs ≡ Err at → (at ≡ placed less x xs) × (holding less x xs ≡ false)
-  found_absent xs at = elim (holding less x xs) as (λ b. cond b (Ok (placed less x xs)) (Err (placed less x xs)) ≡ Err at → (at ≡ placed less x xs) × (b ≡ false)) [ true ↦ λ e. let z : ◌≡◌ {A = ℕ} 0 1 = cc in absurd (omega arith) | false ↦ λ e. (cc, refl) ]
-
   pub holding_past : (xs : List X) → length xs ≤ placed less x xs → holding less x xs ≡ false
   holding_past [] h = refl
   holding_past (y ∷ ys) h =

@@ -1,6 +1,6 @@
 // What ordered rows do to a slice.
-ghost use Rattle.std.specs.Prelude.{◌≡◌, ◌+◌, ◌-◌, ◌<◌, ◌≤◌, true, not, ◌&&◌, ◌||◌, ◌∷◌, ◌++◌, length, take, drop, Some, None, Ok, Err, Decides};
-ghost use Rattle.ordered.specs.Ascending.{◌∈◌, same, member, rising, placed, found, holding, including, excluding, following, leading, Least, Above, LeastSuch};
+ghost use Rattle.std.specs.Prelude.{◌≡◌, ◌+◌, ◌-◌, ◌<◌, ◌≤◌, true, false, not, ◌&&◌, ◌||◌, ◌∷◌, ◌++◌, length, take, drop, Some, None, Decides};
+ghost use Rattle.ordered.specs.Ascending.{◌∈◌, same, member, rising, placed, holding, including, excluding, following, leading, Least, Above, LeastSuch};
 
 use crate::order::TotalOrder;
 
@@ -61,24 +61,14 @@ pub(crate) fn pop_front<T: Copy>(rows: &mut [T])
     }
 }
 
-// The place of x: where it is, or where it would go.
-pub(crate) fn find<T: TotalOrder>(rows: &[T], x: T) -> Result<usize, usize>
-    ensures { result ≡ found T.less x rows.now }
-{
-    let at = place(rows, x);
-    if at < rows.len() && !x.is_less(&rows[at]) {
-        return Ok(at);
-    }
-    Err(at)
-}
-
 // Whether x is one of the rows, which ascend.
 pub(crate) fn holds<T: TotalOrder>(rows: &[T], x: T) -> bool
     ensures answer { result ≡ holding T.less x rows.now }
     ensures set { rising T.less rows.now ≡ true → result ≡ member T.less x rows.now }
     ensures decides { rising T.less rows.now ≡ true → Decides result (x ∈ rows.now) }
 {
-    find(rows, x).is_ok()
+    let at = place(rows, x);
+    at < rows.len() && !x.is_less(&rows[at])
 }
 
 // The first row above x.
@@ -96,27 +86,27 @@ pub(crate) fn above<T: TotalOrder>(rows: &[T], x: T) -> Option<T>
 }
 
 // x goes to its place among the first n rows, where it is not, and takes the row after them.
-pub(crate) fn insert_row<T: TotalOrder>(rows: &mut [T], n: usize, at: usize, x: T)
+pub(crate) fn insert_row<T: TotalOrder>(rows: &mut [T], n: usize, x: T)
     requires within { n < length rows.old }
-    requires front { at ≤ n }
-    requires fresh { found T.less x (take n rows.old) ≡ Err at }
+    requires fresh { holding T.less x (take n rows.old) ≡ false }
     ensures front { take (n + 1) rows.new ≡ including T.less x (take n rows.old) }
     ensures rest { drop (n + 1) rows.new ≡ drop (n + 1) rows.old }
     ensures ascending { rising T.less (take n rows.old) ≡ true → rising T.less (take (n + 1) rows.new) ≡ true }
     ensures members { (z : T) → member T.less z (take (n + 1) rows.new) ≡ (same T.less z x || member T.less z (take n rows.old)) }
 {
+    let at = place(&rows[0..n], x);
     push_front(&mut rows[at..n + 1], x);
 }
 
 // x leaves the first n rows, among which it is.
-pub(crate) fn remove_row<T: TotalOrder>(rows: &mut [T], n: usize, at: usize, x: T)
+pub(crate) fn remove_row<T: TotalOrder>(rows: &mut [T], n: usize, x: T)
     requires within { n ≤ length rows.old }
-    requires front { at ≤ n }
-    requires there { found T.less x (take n rows.old) ≡ Ok at }
+    requires there { holding T.less x (take n rows.old) ≡ true }
     ensures front { take (n - 1) rows.new ≡ excluding T.less x (take n rows.old) }
     ensures rest { drop (n - 1) rows.new ≡ drop (n - 1) rows.old }
     ensures ascending { rising T.less (take n rows.old) ≡ true → rising T.less (take (n - 1) rows.new) ≡ true }
     ensures members { rising T.less (take n rows.old) ≡ true → (z : T) → member T.less z (take (n - 1) rows.new) ≡ (not (same T.less z x) && member T.less z (take n rows.old)) }
 {
+    let at = place(&rows[0..n], x);
     pop_front(&mut rows[at..n]);
 }

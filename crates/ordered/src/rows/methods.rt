@@ -1,10 +1,10 @@
-ghost use Rattle.std.specs.Prelude.{◌≡◌, ℕ, ◌<◌, ◌≤◌, min, true, false, not, ◌&&◌, ◌||◌, ◌⊎◌, [], length, take, drop, if◌then◌else◌, Some, None, Ok, Err, Decides, nat_lt};
-ghost use Rattle.ordered.specs.Ascending.{◌∈◌, same, member, rising, found, holding, including, excluding, following, leading, Least, Above, LeastSuch};
+ghost use Rattle.std.specs.Prelude.{◌≡◌, ℕ, ◌<◌, ◌≤◌, min, true, false, not, ◌&&◌, ◌||◌, ◌⊎◌, [], length, take, drop, if◌then◌else◌, Some, None, Decides, nat_lt};
+ghost use Rattle.ordered.specs.Ascending.{◌∈◌, same, member, rising, holding, including, excluding, following, leading, Least, Above, LeastSuch};
 ghost use Rattle.ordered.specs.Changes.{Entered, Struck};
 ghost use Rattle.ordered.specs.Rows.{items, capacity};
 
 use crate::order::TotalOrder;
-use crate::places::{above, find, first, front, holds, insert_row, remove_row};
+use crate::places::{above, first, front, holds, insert_row, remove_row};
 use crate::rows::OrderedRows;
 
 impl<'a, T: TotalOrder> OrderedRows<'a, T> {
@@ -34,13 +34,6 @@ impl<'a, T: TotalOrder> OrderedRows<'a, T> {
         ensures { result ≡ capacity self.now }
     {
         self.rows.len()
-    }
-
-    // The place of x: where it is, or where it would go.
-    fn find(&self, x: T) -> Result<usize, usize>
-        ensures { result ≡ found T.less x (items self.now) }
-    {
-        find(front(self.rows, self.count), x)
     }
 
     pub fn holds(&self, x: T) -> bool
@@ -85,8 +78,8 @@ impl<'a, T: TotalOrder> OrderedRows<'a, T> {
     }
 
     // x, which is not there, goes to its place.
-    fn insert_at(&mut self, at: usize, x: T)
-        requires fresh { found T.less x (items self.old) ≡ Err at }
+    fn insert_new(&mut self, x: T)
+        requires fresh { holding T.less x (items self.old) ≡ false }
         requires within { length (items self.old) < capacity self.old }
         ensures rows { items self.new ≡ including T.less x (items self.old) }
         ensures spare { drop (length (items self.new)) self.new.rows.now ≡ drop (length (items self.new)) self.old.rows.now }
@@ -94,7 +87,7 @@ impl<'a, T: TotalOrder> OrderedRows<'a, T> {
         ensures ascending { rising T.less (items self.old) ≡ true → rising T.less (items self.new) ≡ true }
     {
         let n = self.used();
-        insert_row(self.rows, n, at, x);
+        insert_row(self.rows, n, x);
         self.count = n + 1;
     }
 
@@ -124,28 +117,27 @@ impl<'a, T: TotalOrder> OrderedRows<'a, T> {
         ensures room { capacity self.new ≡ capacity self.old }
         ensures ascending { rising T.less (items self.old) ≡ true → rising T.less (items self.new) ≡ true }
     {
-        let Err(at) = self.find(x) else {
+        if self.holds(x) {
             return true;
-        };
+        }
         if self.is_full(limit) {
             return false;
         }
-        self.insert_at(at, x);
+        self.insert_new(x);
         true
     }
 
     // x, which is there, leaves.
-    fn remove_at(&mut self, at: usize, x: T)
-        requires there { found T.less x (items self.old) ≡ Ok at }
+    fn remove_old(&mut self, x: T)
+        requires there { holding T.less x (items self.old) ≡ true }
         ensures rows { items self.new ≡ excluding T.less x (items self.old) }
         ensures spare { drop (length (items self.new)) self.new.rows.now ≡ drop (length (items self.new)) self.old.rows.now }
         ensures room { capacity self.new ≡ capacity self.old }
         ensures ascending { rising T.less (items self.old) ≡ true → rising T.less (items self.new) ≡ true }
     {
         let n = self.used();
-        let left = n - 1;
-        remove_row(self.rows, n, at, x);
-        self.count = left;
+        remove_row(self.rows, n, x);
+        self.count = n - 1;
     }
 
     // x leaves; false, with nothing changed, where it was not there.
@@ -160,10 +152,10 @@ impl<'a, T: TotalOrder> OrderedRows<'a, T> {
         ensures ascending { rising T.less (items self.old) ≡ true → rising T.less (items self.new) ≡ true }
         ensures members { rising T.less (items self.old) ≡ true → (z : T) → member T.less z (items self.new) ≡ (not (same T.less z x) && member T.less z (items self.old)) }
     {
-        let Ok(at) = self.find(x) else {
+        if !self.holds(x) {
             return false;
-        };
-        self.remove_at(at, x);
+        }
+        self.remove_old(x);
         true
     }
 }

@@ -1,20 +1,37 @@
-use Rattle.std.proofs.Common.{◌≡◌, ℕ, Bool, true, false, cond, is_ok, Ok, Err, refl, ap, ◌∙◌}
+use Rattle.std.proofs.Common.{◌≡◌, ◌<◌, ◌≤◌, not, length, get_or, sym, ap, ◌∙◌, arith}
+use Rattle.std.proofs.lemmas.Bool.{le-ltb}
 use Rattle.std.proofs.lemmas.Bool.Decides.{Decides-at}
+use Rattle.ordered.specs.Ascending.{placed}
 use Rattle.ordered.proofs.Sets.{holding_member, holding_decides}
+use Rattle.ordered.proofs.Walks.{holding_here, holding_past}
 use Rattle.ordered.proofs.places.holds.Goals as goal
 
-ok_where : (b : Bool) (n m : ℕ) → is_ok {T = ℕ} {E = ℕ} (cond b (Ok n) (Err m)) ≡ b
-ok_where true n m = refl
-ok_where false n m = refl
-
-pub returns : goal.returns
-returns g c =
+pub returns-then-at-rows : goal.returns-then-at-rows
+returns-then-at-rows g c =
     let o = g.met.T.TotalOrder in
     let less = g.T.TotalOrder.less in
     let xs = c.args.rows.now in
-    let is = c.is_ok.ensures.value ∙ ap is_ok c.find.ensures ∙ ok_where _ _ _ in
+    let x = c.args.x in
+    let y = c.index-rows-at.result in
+    let h : placed less x xs < length xs = omega arith in
+    let read : y ≡ get_or xs (placed less x xs) y = c.index-rows-at.is ∙ ap (λ k. get_or xs k y) c.place-at.ensures.place in
+    let is = ap not (c.is_less.ensures ∙ ap (less x) read) ∙ sym (holding_here less x xs y h) in
     record {
       answer = is;
-      set = λ k. is ∙ holding_member less o.irreflexive o.transitive o.total c.args.x xs k;
-      decides = λ k. Decides-at _ _ is (holding_decides less o.irreflexive o.transitive o.total c.args.x xs k);
+      set = λ k. is ∙ holding_member less o.irreflexive o.transitive o.total x xs k;
+      decides = λ k. Decides-at _ _ is (holding_decides less o.irreflexive o.transitive o.total x xs k);
+    }
+
+pub returns-else-at-rows : goal.returns-else-at-rows
+returns-else-at-rows g c =
+    let o = g.met.T.TotalOrder in
+    let less = g.T.TotalOrder.less in
+    let xs = c.args.rows.now in
+    let x = c.args.x in
+    let h : length xs ≤ placed less x xs = omega arith in
+    let is = le-ltb _ _ c.if-at-rows.false ∙ sym (holding_past less x xs h) in
+    record {
+      answer = is;
+      set = λ k. is ∙ holding_member less o.irreflexive o.transitive o.total x xs k;
+      decides = λ k. Decides-at _ _ is (holding_decides less o.irreflexive o.transitive o.total x xs k);
     }

@@ -1,19 +1,19 @@
-use Rattle.std.proofs.Common.{min, true, false, length, sym, refl, ◌∙◌, inl, inr}
+use Rattle.std.proofs.Common.{min, true, false, length, sym, refl, inl, inr}
 use Rattle.std.proofs.lemmas.Bool.{both_ways, or_left, or_right, or_from, not-true, not-false}
 use Rattle.ordered.specs.Rows.{items}
 use Rattle.ordered.proofs.Changes.{held, entered, entered_fits}
 use Rattle.ordered.proofs.Shift.{same_past}
-use Rattle.ordered.proofs.Walks.{found_there, found_absent, including_old}
+use Rattle.ordered.proofs.Walks.{including_old}
 use Rattle.ordered.proofs.rows.OrderedRows.insert_up_to.Goals as goal
 
-pub returns-in_default : goal.returns-in_default
-returns-in_default g c =
+pub returns-then-holds : goal.returns-then-holds
+returns-then-holds g c =
     let o = g.met.T.TotalOrder in
     let less = g.T.TotalOrder.less in
     let x = c.args.x in
     let xs = items c.args.self.now in
     let room = min (length c.args.self.now.rows.now) c.args.limit in
-    let there = (found_there less x xs c.in_default.field-0 (sym c.find.ensures ∙ c.in_default.is)).1 in
+    let there = sym c.if-holds.ensures.answer in
     let answer = sym (or_left _ _ there) in
     let is = sym (including_old less x xs there) in
     record {
@@ -34,7 +34,7 @@ returns-then-is_full g c =
     let x = c.args.x in
     let xs = items c.args.self.now in
     let room = min (length c.args.self.now.rows.now) c.args.limit in
-    let absent = (found_absent less x xs c.in-Err.at (sym c.find.ensures ∙ c.in-Err.is)).1 in
+    let absent = sym c.if-holds.ensures.answer in
     let answer = sym (or_from _ _ absent (not-true _ (sym c.if-is_full.ensures))) in
     record {
       answer = answer;
@@ -53,10 +53,10 @@ returns g c =
     let less = g.T.TotalOrder.less in
     let x = c.args.x in
     let xs = items c.args.self.now in
-    let xs' = items c.insert_at.new.self in
+    let xs' = items c.insert_new.new.self in
     let room = min (length c.args.self.now.rows.now) c.args.limit in
-    let absent = (found_absent less x xs c.in-Err.at (sym c.find.ensures ∙ c.in-Err.is)).1 in
-    let did = c.insert_at.ensures in
+    let absent = sym c.if-holds.ensures.answer in
+    let did = c.insert_new.ensures in
     let answer = sym (or_right _ _ (not-false _ (sym c.if-is_full.ensures))) in
     record {
       answer = answer;
@@ -64,7 +64,7 @@ returns g c =
       set = λ up f. entered less o.irreflexive o.transitive o.total x xs up room f true xs' answer did.rows;
       fits = λ f. entered_fits less x xs room f true xs' answer did.rows;
       unchanged = λ up h. elim h [ inl e ↦ absurd (both_ways true e refl) | inr m ↦ absurd (both_ways _ absent ((held less o.irreflexive o.transitive o.total x xs up).1 m)) ];
-      spare = λ n f. same_past _ _ (length (items c.insert_at.new.self)) n f did.spare;
+      spare = λ n f. same_past _ _ (length (items c.insert_new.new.self)) n f did.spare;
       room = did.room;
       ascending = did.ascending;
     }

@@ -5,16 +5,16 @@ use Rattle.ordered.specs.Rows.{items}
 use Rattle.ordered.proofs.Changes.{struck}
 use Rattle.ordered.proofs.Sets.{length_excluding_le, member_excluding}
 use Rattle.ordered.proofs.Shift.{same_past}
-use Rattle.ordered.proofs.Walks.{found_there, found_absent, excluding_none}
+use Rattle.ordered.proofs.Walks.{excluding_none}
 use Rattle.ordered.proofs.rows.OrderedRows.remove.Goals as goal
 
-pub returns-in_default : goal.returns-in_default
-returns-in_default g c =
+pub returns-then-not-holds : goal.returns-then-not-holds
+returns-then-not-holds g c =
     let o = g.met.T.TotalOrder in
     let less = g.T.TotalOrder.less in
     let x = c.args.x in
     let xs = items c.args.self.now in
-    let absent = sym (found_absent less x xs c.in_default.field-0 (sym c.find.ensures ∙ c.in_default.is)).1 in
+    let absent = c.if-not-holds.ensures.answer in
     let is = sym (excluding_none less x xs (sym absent)) in
     record {
       answer = absent;
@@ -34,15 +34,15 @@ returns g c =
     let less = g.T.TotalOrder.less in
     let x = c.args.x in
     let xs = items c.args.self.now in
-    let there = sym (found_there less x xs c.in-Ok.at (sym c.find.ensures ∙ c.in-Ok.is)).1 in
-    let did = c.remove_at.ensures in
+    let there = c.if-not-holds.ensures.answer in
+    let did = c.remove_old.ensures in
     record {
       answer = there;
       rows = did.rows;
-      set = λ up. struck less o.irreflexive o.transitive o.total x xs up true (items c.remove_at.new.self) there did.rows;
+      set = λ up. struck less o.irreflexive o.transitive o.total x xs up true (items c.remove_old.new.self) there did.rows;
       fewer = omega (arith, ap length did.rows, length_excluding_le less x xs);
       unchanged = λ e. absurd (both_ways true e refl);
-      spare = λ n f. same_past _ _ (length (items c.remove_at.new.self)) n f did.spare;
+      spare = λ n f. same_past _ _ (length (items c.remove_old.new.self)) n f did.spare;
       room = did.room;
       ascending = did.ascending;
       members = λ h z. ap (member less z) did.rows ∙ member_excluding less o.irreflexive o.transitive o.total z x xs h;
