@@ -3,13 +3,13 @@ use Rattle.std.proofs.lemmas.Bool.Decides.{nat_tests}
 use Rattle.loader.proofs.TextLines.{strange_more, strange_here, strange_none}
 use Rattle.loader.proofs.checks.check_bytes.Goals as goal
 
-pub returns-then-not-is-plain : goal.returns-then-not-is-plain
-returns-then-not-is-plain c =
+pub returns-then-not-is_plain : goal.returns-then-not-is_plain
+returns-then-not-is_plain c =
     rw (strange_here c.args.text.now c.loop-b.b-index c.loop-b.line c.loop-b.invariant.0 c.loop-b-test.true (search rules))
 
 pub loop-b-preserved : goal.loop-b-preserved
 loop-b-preserved c = (
-  rw c.line-after-line.ensures (strange_more c.args.text.now c.loop-b.b-index c.loop-b.line c.loop-b.invariant.0 c.loop-b-test.true (search rules)),
+  rw c.line_after-line.ensures (strange_more c.args.text.now c.loop-b.b-index c.loop-b.line c.loop-b.invariant.0 c.loop-b-test.true (search rules)),
   grind (arith, nat_tests),
 )
 
