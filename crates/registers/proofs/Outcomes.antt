@@ -1,9 +1,8 @@
 -- The meaning of a register's calls leaves them one outcome. Assumes nothing.
-use Rattle.std.proofs.Common.{◌≡◌, ℕ, Bool, true, false, ◌↔◌, List, Some, None, Option, sym, refl, ap, ◌∙◌, inl, inr}
+use Rattle.std.proofs.Common.{◌≡◌, Bool, true, false, ◌↔◌, List, Some, None, Option, sym, refl, ap, ◌∙◌, inl, inr}
 use Rattle.std.proofs.lemmas.Bool.{both_ways}
 use Rattle.std.proofs.lemmas.Bool.Decides.{same_from_decides, Decides-like}
-use Rattle.ordered.specs.Ascending.{◌∈◌, member, Above, LeastSuch}
-use Rattle.ordered.specs.Changes.{Entered, Struck}
+use Rattle.ordered.specs.Ascending.{Above, LeastSuch}
 use Rattle.ordered.proofs.Sets.{same_set, member_decides}
 use Rattle.duties.specs.Duties.{before}
 use Rattle.duties.specs.declared.duty.Duty.{Duty}

@@ -1,5 +1,5 @@
 -- The tokens of a word. Assumes nothing.
-use Rattle.std.specs.Prelude.{ℕ, cond, List, [], ◌∷◌, map, Some, None, codes, Option}
+use Rattle.std.specs.Prelude.{ℕ, cond, List, [], map, Some, None, codes, Option}
 use Rattle.std.specs.Borrow.{Bor}
 use Rattle.std.specs.Str.{bytes_eq}
 use Rattle.text.specs.declared.token.Keyword.{Keyword}
