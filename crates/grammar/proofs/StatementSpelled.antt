@@ -1,6 +1,5 @@
 -- An effect or a condition is read as the grammar spells it. Assumes nothing.
 use Rattle.std.proofs.Common.{◌≡◌, ℕ, List, [], ◌∷◌, ◌++◌, Ok, codes, sym, refl, ap, ◌∙◌, subst, inl, inr}
-use Rattle.duties.specs.declared.duty.Literal.{Literal}
 use Rattle.duties.specs.declared.order.DutyPattern.{DutyPattern}
 use Rattle.duties.specs.declared.order.Statement.{Statement}
 use Rattle.duties.specs.declared.order.Statement.TheVariants as S

@@ -8,7 +8,6 @@ use Rattle.duties.specs.Ranges.{literal_apart, t_bound}
 use Rattle.fields.specs.declared.fault.Cause.{Cause}
 use Rattle.fields.specs.Fields.{event_of, statement_of}
 use Rattle.fields.specs.Reading.{and_then}
-use Rattle.names.specs.declared.name.Name.{Name}
 use Rattle.names.specs.Names.{name_of}
 use Rattle.sheets.specs.Sheets.{Content, with_order, with_point, with_tag}
 use Rattle.text.specs.Spelling.{is_name}

@@ -1,5 +1,5 @@
 -- What the lines of a sheet declare. Assumes nothing.
-use Rattle.std.specs.Prelude.{◌≡◌, ℕ, ◌<◌, ◌≤◌, true, false, List, [], ◌∷◌, ◌++◌, map, length, take, replicate, Some, None, codes, Option}
+use Rattle.std.specs.Prelude.{◌≡◌, ℕ, ◌<◌, ◌≤◌, true, false, List, [], ◌∷◌, ◌++◌, map, length, take, replicate, Some, None, codes}
 use Rattle.duties.specs.declared.order.Event.{Event}
 use Rattle.duties.specs.declared.order.Order.{Order}
 use Rattle.duties.specs.declared.order.Statement.{Statement}
