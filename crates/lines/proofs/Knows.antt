@@ -1,6 +1,6 @@
 -- Ordered rows that have just the names of a table. Assumes nothing.
 use Rattle.std.proofs.Common.{◌≡◌, ℕ, suc, ◌+◌, ◌<◌, ◌≤◌, Bool, true, false, cond, ◌||◌, ltb, List, [], ◌∷◌, ◌++◌, length, Ok, Err, Result, sym, refl, ap, ◌∙◌, arith, length-append}
-use Rattle.std.proofs.lemmas.Bool.{cond_both, cond-true, lt-ltb, or_right}
+use Rattle.std.proofs.lemmas.Bool.{cond_both, lt-ltb, or_right}
 use Rattle.duties.specs.declared.order.Order.{Order}
 use Rattle.fields.specs.Reading.{and_then}
 use Rattle.names.specs.declared.name.Name.{Name}
@@ -9,7 +9,7 @@ use Rattle.names.specs.NameLaws.{name_irreflexive, name_total, name_transitive}
 use Rattle.ordered.specs.declared.rows.OrderedRows.{OrderedRows}
 use Rattle.ordered.specs.Ascending.{holding, including, member, rising, same, union}
 use Rattle.ordered.specs.Rows.{capacity, items}
-use Rattle.ordered.proofs.Sets.{holding_member, length_including, member_including, member_union, rising_union, same_set}
+use Rattle.ordered.proofs.Sets.{holding_member, length_including, member_union, rising_union, same_set}
 use Rattle.sheets.specs.Sheets.{Content, lawful, with_order, with_point, with_tag}
 use Rattle.text.specs.Spelling.{is_name}
 use Rattle.text.specs.Split.{split}
@@ -80,10 +80,7 @@ module _ (k l : OrderedRows Name) (t : Content) (n : Name) (r : Bool) (known : I
     (answer : r ≡ (holding name_before n (items k) || ltb (length (items k)) (capacity k)))
     (size : capacity l ≡ capacity k)
     (ascending : rising name_before (items k) ≡ true → rising name_before (items l) ≡ true)
-    (rows : items l ≡ cond r (including name_before n (items k)) (items k)) where
-  members : r ≡ true → (z : Name) → member name_before z (items l) ≡ (same name_before z n || member name_before z (items k))
-  members t z = ap (member name_before z) (rows ∙ cond-true _ _ _ t) ∙ member_including name_before name_irreflexive name_transitive name_total z n (items k)
-
+    (members : r ≡ true → (z : Name) → member name_before z (items l) ≡ (same name_before z n || member name_before z (items k))) where
   -- there is room
   pub inserted : length t.tags + length t.points < 128 → r ≡ true
   inserted few =

@@ -50,6 +50,15 @@ module _ {X : Type 0} (less : X → X → Bool) where
         | false ↦ elim (less x y) as (λ b. length (cond b (x ∷ (y ∷ ys)) (y ∷ ys)) ≡ cond (not b) (suc (length ys)) (suc (suc (length ys)))) [ true ↦ refl | false ↦ refl ]
       ]
 
+  pub length_excluding : (x : X) (xs : List X) → holding less x xs ≡ true → suc (length (excluding less x xs)) ≡ length xs
+  length_excluding x [] h = absurd (both_ways false refl h)
+  length_excluding x (y ∷ ys) h =
+      elim (less y x) as (λ b. cond b (holding less x ys) (not (less x y)) ≡ true → suc (length (cond b (y ∷ excluding less x ys) (cond (less x y) (y ∷ ys) ys))) ≡ suc (length ys)) [
+        | true ↦ λ k. ap suc (length_excluding x ys k)
+        | false ↦ λ k. ap (λ b. suc (length (cond b (y ∷ ys) ys))) (not-true (less x y) k)
+      ]
+      h
+
   pub length_excluding_le : (x : X) (xs : List X) → length (excluding less x xs) ≤ length xs
   length_excluding_le x [] = omega arith
   length_excluding_le x (y ∷ ys) =

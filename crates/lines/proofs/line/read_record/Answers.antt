@@ -17,7 +17,7 @@ returns-in-Some c =
     let says = says_tag c.args.known.now t c.requires.known c.args.line.now c.in-Some.rest.now c.tags.result.now _ c.in-Some.ensures c.tags.ensures c.in_ok-name.ensures in
     let reads : line_of t c.args.line.now ≡ Ok (content c.add_tag.new.self) = says ∙ ap Ok (sym c.add_tag.ensures) in
     let few = name_room c.args.known.now t c.requires.known c.args.line.now c.in-Some.rest.now c.tags.result.now t.tags c.in_ok-name.name c.tags.ensures c.in_ok-name.ensures in
-    let knows = knows_tag c.args.known.now c.insert.new.self t c.in_ok-name.name c.insert.result c.requires.known c.insert.ensures.answer c.insert.ensures.room c.insert.ensures.ascending c.insert.ensures.rows c.requires.lawful few in
+    let knows = knows_tag c.args.known.now c.insert.new.self t c.in_ok-name.name c.insert.result c.requires.known c.insert.ensures.answer c.insert.ensures.room c.insert.ensures.ascending c.insert.ensures.members c.requires.lawful few in
     record {
       read = reads;
       lawful = read_lawful t (content c.add_tag.new.self) c.args.line.now c.requires.lawful reads;
@@ -36,7 +36,7 @@ returns-in-Some-after_point c =
     let reads : line_of t c.args.line.now ≡ Ok (content c.add_point.new.self) = says ∙ ap Ok (sym c.add_point.ensures) in
     let few = name_room c.args.known.now t c.requires.known c.args.line.now c.in-Some-after_point.rest.now c.points.result.now t.points c.in_ok-name-2.name c.points.ensures c.in_ok-name-2.ensures in
     let insert = c.insert-in-Some-after_point in
-    let knows = knows_point c.args.known.now insert.new.self t c.in_ok-name-2.name insert.result c.requires.known insert.ensures.answer insert.ensures.room insert.ensures.ascending insert.ensures.rows c.requires.lawful few in
+    let knows = knows_point c.args.known.now insert.new.self t c.in_ok-name-2.name insert.result c.requires.known insert.ensures.answer insert.ensures.room insert.ensures.ascending insert.ensures.members c.requires.lawful few in
     record {
       read = reads;
       lawful = read_lawful t (content c.add_point.new.self) c.args.line.now c.requires.lawful reads;
