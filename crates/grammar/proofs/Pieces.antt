@@ -1,14 +1,14 @@
 -- Pieces of bytes between separators, and what follows a front. Assumes nothing.
 use Rattle.std.proofs.Common.{◌≡◌, ℕ, ◌<◌, Bool, true, false, cond, not, eqb, List, [], ◌∷◌, ◌++◌, length, Some, None, Option, sym, refl, ap, ◌∙◌, subst, arith}
 use Rattle.std.proofs.lemmas.Bool.{and_parts, both_ways, cond_both, cond-false, cond-true, eq-eqb, eqb-true, ne_eqb, not_from_true}
-use Rattle.std.specs.List.{AllByRecursion as All}
+use Rattle.std.specs.List.{AllByRecursion}
 use Rattle.text.specs.Spelling.{all}
 use Rattle.text.specs.Split.{onto, past, split}
 use Rattle.text.proofs.Splits.{split_some}
 
 -- s is not among the bytes
 abbrev pub Lacks : ℕ → List ℕ → Type 0
-Lacks s bs = All (λ b. b ≡ s → ⊥) bs
+Lacks s bs = AllByRecursion (λ b. b ≡ s → ⊥) bs
 
 -- each passes a test that s does not pass
 pub lacks_all : (f : ℕ → Bool) (s : ℕ) (bs : List ℕ) → f s ≡ false → all f bs ≡ true → Lacks s bs

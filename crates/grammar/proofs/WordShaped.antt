@@ -1,7 +1,7 @@
 -- The shapes of names joined by + and of literals, and what they are refused for. Assumes nothing.
 use Rattle.std.proofs.Common.{◌≡◌, ℕ, ◌<◌, true, ◌⊎◌, List, [], ◌∷◌, ◌++◌, map, length, Some, None, Ok, Err, codes, Option, sym, refl, ap, ◌∙◌, subst, inl, inr, arith}
 use Rattle.std.proofs.ByRecursion.{All-append}
-use Rattle.std.specs.List.{AllByRecursion as All}
+use Rattle.std.specs.List.{AllByRecursion}
 use Rattle.duties.specs.declared.duty.Literal.TheVariants as L
 use Rattle.duties.specs.Sets.{adding}
 use Rattle.fields.specs.declared.fault.Cause.TheVariants.{Shape}
@@ -25,7 +25,7 @@ use Rattle.grammar.proofs.Steps.{ok_then}
 use Rattle.grammar.proofs.Told.{is_named, names_told}
 
 abbrev Names : List (List ℕ) → Type 0
-Names ws = All (λ w. is_name w ≡ true) ws
+Names ws = AllByRecursion (λ w. is_name w ≡ true) ws
 
 abbrev pub SomeSet : List ℕ → Type 0
 SomeSet bs = (ns : List (List ℕ)) × SetShape bs ns

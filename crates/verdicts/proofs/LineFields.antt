@@ -3,7 +3,7 @@ use Rattle.std.proofs.Common.{◌≡◌, ℕ, ◌≤◌, Bool, true, false, eqb,
 use Rattle.std.proofs.lemmas.List.{append_assoc, append-nil}
 use Rattle.std.proofs.lemmas.Bool.{cases_Bool, cond_both, cond-false, le-leb, leb-true, ne_eqb}
 use Rattle.std.proofs.lemmas.Bool.Decides.{nat_tests}
-use Rattle.std.specs.List.{AllByRecursion as All}
+use Rattle.std.specs.List.{AllByRecursion}
 use Rattle.fields.specs.Reading.{by}
 use Rattle.sheets.specs.Sheets.{Content}
 use Rattle.text.specs.Split.{onto, past, split}
@@ -17,14 +17,14 @@ use Rattle.verdicts.specs.Refused.{IsRecord, OrderFields, Tabless, count_of, ord
 use Rattle.verdicts.proofs.Bytes.{Prints, no_tab}
 
 -- the parts between separators have none
-onto_without : (s b : ℕ) (ps : List (List ℕ)) → eqb b s ≡ false → All (λ p. count_of s p ≡ 0) ps → All (λ p. count_of s p ≡ 0) (onto b ps)
+onto_without : (s b : ℕ) (ps : List (List ℕ)) → eqb b s ≡ false → AllByRecursion (λ p. count_of s p ≡ 0) ps → AllByRecursion (λ p. count_of s p ≡ 0) (onto b ps)
 onto_without s b [] e h = (cond-false (eqb b s) _ _ e, tt)
 onto_without s b (p ∷ ps) e (h, hs) = (cond-false (eqb b s) _ _ e ∙ h, hs)
 
-pub parts_without : (s : ℕ) (bs : List ℕ) → All (λ p. count_of s p ≡ 0) (split s bs)
+pub parts_without : (s : ℕ) (bs : List ℕ) → AllByRecursion (λ p. count_of s p ≡ 0) (split s bs)
 parts_without s [] = (refl, tt)
 parts_without s (b ∷ bs) =
-    cond_both (eqb b s) ([] ∷ split s bs) (onto b (split s bs)) (All (λ p. count_of s p ≡ 0))
+    cond_both (eqb b s) ([] ∷ split s bs) (onto b (split s bs)) (AllByRecursion (λ p. count_of s p ≡ 0))
     (λ _. (refl, parts_without s bs)) (λ e. onto_without s b (split s bs) e (parts_without s bs))
 
 pub none_lacks : (s : ℕ) (bs : List ℕ) → count_of s bs ≡ 0 → Lacks s bs
@@ -38,7 +38,7 @@ lacks_none s (b ∷ bs) (h, hs) = cond-false (eqb b s) _ _ (ne_eqb b s h) ∙ la
 pub prints_tabless : (bs : List ℕ) → Prints bs → Tabless bs
 prints_tabless bs h = lacks_none 9 bs (no_tab bs h)
 
-each_lacks : (cs : List (List ℕ)) → All Tabless cs → All (Lacks 9) cs
+each_lacks : (cs : List (List ℕ)) → AllByRecursion Tabless cs → AllByRecursion (Lacks 9) cs
 each_lacks [] h = tt
 each_lacks (c ∷ cs) (h, hs) = (none_lacks 9 c h, each_lacks cs hs)
 
@@ -47,7 +47,7 @@ after_tabbed : (v : List ℕ) (cs : List (List ℕ)) → after 9 v cs ≡ v ++ t
 after_tabbed v [] = sym (append-nil v)
 after_tabbed v (c ∷ cs) = after_tabbed (v ++ 9 ∷ c) cs ∙ append_assoc v (9 ∷ c) (tabbed cs)
 
-split_tabbed : (v : List ℕ) (cs : List (List ℕ)) → Lacks 9 v → All (Lacks 9) cs → split 9 (v ++ tabbed cs) ≡ v ∷ cs
+split_tabbed : (v : List ℕ) (cs : List (List ℕ)) → Lacks 9 v → AllByRecursion (Lacks 9) cs → split 9 (v ++ tabbed cs) ≡ v ∷ cs
 split_tabbed v [] h hs = ap (split 9) (append-nil v) ∙ split_one 9 v h
 split_tabbed v (c ∷ cs) h (k, hs) = rw (split_append 9 v (c ++ tabbed cs), split_one 9 v h, split_tabbed c cs k hs)
 
@@ -98,7 +98,7 @@ few_cases (ev ∷ ef ∷ cs) =
     ]
 
 one_tabless : (r w : List ℕ) → split 9 r ≡ w ∷ [] → Tabless r
-one_tabless r w is = subst Tabless (ap (joined 9) (sym is) ∙ joined_split 9 r) (subst (All Tabless) is (parts_without 9 r)).0
+one_tabless r w is = subst Tabless (ap (joined 9) (sym is) ∙ joined_split 9 r) (subst (AllByRecursion Tabless) is (parts_without 9 r)).0
 
 module _ (t : Content) where
   -- a line is a record, or it is read as none
@@ -123,7 +123,7 @@ module _ (t : Content) where
   order_sorted l r a b e =
       elim (few_cases (split 9 r)) [
         | inl (ev, ef, cs, is, le) ↦
-            let (h, (k, hs)) = subst (All Tabless) is (parts_without 9 r) in
+            let (h, (k, hs)) = subst (AllByRecursion Tabless) is (parts_without 9 r) in
             let whole : order_bytes ev ef cs ≡ l = ap (λ v. codes "order" ++ 9 ∷ v) (fields_joined r ev ef cs is) ∙ sym (past_is (codes "order" ++ 9 ∷ []) l r e) in
             inl (subst IsRecord whole (R.order_record ev ef cs (h, k, hs, le)))
         | inr bad ↦ inr (rw (a, b, e, bad), rw (a, b, e, bad))

@@ -1,7 +1,7 @@
 -- A line declares something or is refused by its first cause, and it is read so. Assumes nothing.
 use Rattle.std.proofs.Common.{◌≡◌, ℕ, ◌+◌, ◌<◌, ◌≤◌, ltb, ◌⊎◌, ◌↔◌, List, ◌∷◌, ◌++◌, length, Ok, Err, codes, Result, sym, refl, ◌∙◌, subst, inl, inr}
 use Rattle.std.proofs.lemmas.Bool.{both_ways, cases_Bool, le-ltb, lt-ltb, ltb-false, ltb-true}
-use Rattle.std.specs.List.{AllByRecursion as All}
+use Rattle.std.specs.List.{AllByRecursion}
 use Rattle.duties.specs.declared.order.Event.{Event}
 use Rattle.duties.specs.declared.order.Statement.{Statement}
 use Rattle.duties.specs.Ranges.{literal_apart, t_bound}
@@ -33,7 +33,7 @@ pub same_err : {X E : Type 0} {d e : E} → ◌≡◌ {A = Result X E} (Err d) (
 same_err h = cc
 
 module _ (t : Content) where
-  each_tabless : {cs : List (List ℕ)} {ss : List Statement} → SpellsEach t.tags t.points cs ss → All Tabless cs
+  each_tabless : {cs : List (List ℕ)} {ss : List Statement} → SpellsEach t.tags t.points cs ss → AllByRecursion Tabless cs
   each_tabless no_field = tt
   each_tabless (and_field {f} h hs) = (prints_tabless f (statement_prints h), each_tabless hs)
 

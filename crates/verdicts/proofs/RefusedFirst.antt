@@ -2,7 +2,7 @@
 use Rattle.std.proofs.Common.{◌≡◌, ℕ, ◌+◌, ◌<◌, ◌≤◌, Bool, true, false, cond, eqb, leb, ◌⊎◌, List, [], ◌∷◌, ◌++◌, length, Some, None, Ok, Err, Option, Result, sym, refl, ap, ◌∙◌, subst, inl, inr, zero-add, arith}
 use Rattle.std.proofs.lemmas.List.{append_assoc}
 use Rattle.std.proofs.lemmas.Bool.{and_from, and_parts, cases_Bool, cond-false, cond-true, eqb-true, le-leb, leb-false, leb-true, lt-leb}
-use Rattle.std.specs.List.{AllByRecursion as All}
+use Rattle.std.specs.List.{AllByRecursion}
 use Rattle.fields.specs.Reading.{and_then}
 use Rattle.sheets.specs.Sheets.{Content, blank}
 use Rattle.text.specs.Spelling.{all}
@@ -134,12 +134,12 @@ line_there k m ms c (and_line {t} {u} {v} {l} {ls} g hs) h =
     ∙ ok_then (lines_of (parted (ls ++ m ∷ ms)) (k + 1)) (ap (λ r. loaded (lined k r)) ((lines_declared t l u).1 g))
     ∙ line_there (k + 1) m ms c hs h ∙ ap (λ n. Err (F.Line (record { line = n; cause = c }))) n
 
-all_middle : {X : Type 0} (P : X → Type 0) (xs : List X) (y : X) (zs : List X) → All P (xs ++ y ∷ zs) → P y
+all_middle : {X : Type 0} (P : X → Type 0) (xs : List X) (y : X) (zs : List X) → AllByRecursion P (xs ++ y ∷ zs) → P y
 all_middle P [] y zs h = h.0
 all_middle P (x ∷ xs) y zs h = all_middle P xs y zs h.1
 
 -- lines with no line feed, and what follows
-split_lines : (ls : List (List ℕ)) (bs : List ℕ) → All (Lacks 10) ls → split 10 (ended ls ++ bs) ≡ ls ++ split 10 bs
+split_lines : (ls : List (List ℕ)) (bs : List ℕ) → AllByRecursion (Lacks 10) ls → split 10 (ended ls ++ bs) ≡ ls ++ split 10 bs
 split_lines [] bs h = refl
 split_lines (l ∷ ls) bs (h, hs) =
     ap (split 10) (append_assoc l (10 ∷ ended ls) bs) ∙ split_append 10 l (ended ls ++ bs) ∙ ap (λ ps. ps ++ split 10 (ended ls ++ bs)) (split_one 10 l h) ∙ ap (λ ps. l ∷ ps) (split_lines ls bs hs)
@@ -155,7 +155,7 @@ ended_parted (l ∷ ls) =
     let (qs, e) = ended_parted ls in
     (split 10 l ++ qs, split_append 10 l (ended ls) ∙ ap (λ ps. split 10 l ++ ps) e ∙ sym (append_assoc (split 10 l) qs ([] ∷ [])))
 
-line_parted : (ls ms : List (List ℕ)) (l : List ℕ) → All (Lacks 10) ls → Lacks 10 l → (qs : List (List ℕ)) × (split 10 (ended (ls ++ l ∷ ms)) ≡ parted (ls ++ l ∷ qs))
+line_parted : (ls ms : List (List ℕ)) (l : List ℕ) → AllByRecursion (Lacks 10) ls → Lacks 10 l → (qs : List (List ℕ)) × (split 10 (ended (ls ++ l ∷ ms)) ≡ parted (ls ++ l ∷ qs))
 line_parted ls ms l hs h =
     let (qs, e) = ended_parted ms in
     let is : split 10 (l ++ 10 ∷ ended ms) ≡ l ∷ parted qs = split_append 10 l (ended ms) ∙ ap (λ ps. ps ++ split 10 (ended ms)) (split_one 10 l h) ∙ ap (λ ps. l ∷ ps) e in
@@ -168,7 +168,7 @@ module _ (text : List ℕ) (f : LoadFault) where
       let (before, l, rest, u, c, parts, declare, bad, at) = line_found ls 1 blank f (ap (λ ps. lines_of ps 1 blank) (sym is) ∙ h) in
       let spelled : text ≡ ended (before ++ l ∷ rest) = sym (joined_split 10 text) ∙ ap (joined 10) is ∙ joined_ended ls ∙ ap ended parts in
       let apart : split 10 text ≡ before ++ l ∷ (rest ++ [] ∷ []) = is ∙ ap parted parts ∙ append_assoc before (l ∷ rest) ([] ∷ []) in
-      let one = all_middle (λ p. feeds p ≡ 0) before l (rest ++ [] ∷ []) (subst (All (λ p. feeds p ≡ 0)) apart (parts_without 10 text)) in
+      let one = all_middle (λ p. feeds p ≡ 0) before l (rest ++ [] ∷ []) (subst (AllByRecursion (λ p. feeds p ≡ 0)) apart (parts_without 10 text)) in
       subst (λ v. Refused v f) (sym spelled) (subst (Refused (ended (before ++ l ∷ rest))) at (bad_line l rest (subst Readable spelled readable) declare one bad))
 
   unfinished_refused : Readable text → passed (unfinished_line 1 (split 10 text)) F.Unfinished ≡ Err f → Refused text f

@@ -2,7 +2,7 @@
 use Rattle.std.proofs.Common.{◌≡◌, ℕ, ◌+◌, ◌<◌, Bool, true, false, cond, eqb, leb, List, [], ◌∷◌, ◌++◌, length, Some, None, Ok, Err, Option, Result, sym, refl, ap, ◌∙◌, subst, arith}
 use Rattle.std.proofs.lemmas.List.{append_assoc}
 use Rattle.std.proofs.lemmas.Bool.{and_from, and_parts, cond-true, le-leb, leb-true}
-use Rattle.std.specs.List.{AllByRecursion as All}
+use Rattle.std.specs.List.{AllByRecursion}
 use Rattle.duties.specs.declared.order.Statement.{Statement}
 use Rattle.names.specs.declared.name.Name.{Name}
 use Rattle.fields.specs.Reading.{and_then}
@@ -69,7 +69,7 @@ pub joined_ended : (ls : List (List ℕ)) → joined 10 (parted ls) ≡ ended ls
 joined_ended [] = refl
 joined_ended (l ∷ ls) = after_ended l ls
 
-split_ended : (ls : List (List ℕ)) → All (Lacks 10) ls → split 10 (ended ls) ≡ parted ls
+split_ended : (ls : List (List ℕ)) → AllByRecursion (Lacks 10) ls → split 10 (ended ls) ≡ parted ls
 split_ended [] h = refl
 split_ended (l ∷ ls) (h, hs) = rw (split_append 10 l (ended ls), split_one 10 l h, split_ended ls hs)
 
@@ -103,7 +103,7 @@ line_feedless (an_order {ev} {ef} {cs} h k hs le lt apart bound) =
     all_both one_line ev (9 ∷ (ef ++ tabbed cs)) (no_feed ev (event_prints h)) (all_both one_line ef (tabbed cs) (no_feed ef (statement_prints k)) (fields_feedless hs))
 
 -- no line that declares something has a line feed
-pub declare_feedless : {t u : Content} {ls : List (List ℕ)} → Declare t ls u → All (Lacks 10) ls
+pub declare_feedless : {t u : Content} {ls : List (List ℕ)} → Declare t ls u → AllByRecursion (Lacks 10) ls
 declare_feedless no_line = tt
 declare_feedless (and_line {t} {u} {v} {l} h hs) = (lacks_here 10 l (line_feedless h), declare_feedless hs)
 

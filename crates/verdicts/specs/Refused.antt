@@ -1,6 +1,6 @@
 -- Which texts are refused, and by which fault: the first cause of four, and of a line its own first cause. Assumes nothing.
 use Rattle.std.specs.Prelude.{◌≡◌, ℕ, ◌+◌, ◌<◌, ◌≤◌, true, false, cond, List, [], ◌∷◌, ◌++◌, length, codes, ◌==◌}
-use Rattle.std.specs.List.{AllByRecursion as All}
+use Rattle.std.specs.List.{AllByRecursion}
 use Rattle.duties.specs.declared.order.Event.{Event}
 use Rattle.duties.specs.declared.order.Statement.{Statement}
 use Rattle.duties.specs.Ranges.{literal_apart, t_bound}
@@ -33,7 +33,7 @@ Tabless w = count_of 9 w ≡ 0
 
 -- the fields of an order after its key word: an event, an effect and up to four conditions
 abbrev pub OrderFields : List ℕ → List ℕ → List (List ℕ) → Type 0
-OrderFields ev ef cs = Tabless ev × Tabless ef × All Tabless cs × (length cs ≤ 4)
+OrderFields ev ef cs = Tabless ev × Tabless ef × AllByRecursion Tabless cs × (length cs ≤ 4)
 
 abbrev pub order_bytes : List ℕ → List ℕ → List (List ℕ) → List ℕ
 order_bytes ev ef cs = codes "order" ++ 9 ∷ (ev ++ 9 ∷ (ef ++ tabbed cs))
