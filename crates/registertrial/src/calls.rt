@@ -4,7 +4,7 @@ ghost use Rattle.std.specs.Prelude.{◌<◌};
 use duties::{Duty, Literal, TagSet, Task};
 
 #[derive(Clone, Copy)]
-pub enum Call {
+pub(crate) enum Call {
     Enter(Duty),
     Strike(Duty),
     Held(Duty),
@@ -15,12 +15,12 @@ pub enum Call {
 }
 
 #[derive(Drop)]
-pub struct Draw {
+pub(crate) struct Draw {
     state: u64,
 }
 
 impl Draw {
-    pub fn new(seed: u64) -> Draw {
+    pub(crate) fn new(seed: u64) -> Draw {
         Draw { state: seed }
     }
 
@@ -55,7 +55,7 @@ impl Draw {
         Duty { due, task }
     }
 
-    pub fn call(&mut self) -> Call {
+    pub(crate) fn call(&mut self) -> Call {
         let which = self.below(1000);
         let d = self.duty();
         match which {

@@ -10,12 +10,12 @@ const SEED: u64 = 0x2545_f491_4f6c_dd1d;
 
 // What a trial came to.
 #[derive(Clone, Copy)]
-pub struct Tally {
-    pub calls: u32,
-    pub refused: u32,
+pub(crate) struct Tally {
+    pub(crate) calls: u32,
+    pub(crate) refused: u32,
     // Answers that are not those of the plain list.
-    pub differ: u32,
-    pub sum: u64,
+    pub(crate) differ: u32,
+    pub(crate) sum: u64,
 }
 
 // An answer, and whether the plain list gave the same.
@@ -105,7 +105,7 @@ fn agree<R: Register>(register: &R, plain: &Plain) -> bool {
     true
 }
 
-pub fn drive<R: Register>(heap: Global, register: &mut R) -> Result<Tally, AllocError> {
+pub(crate) fn drive<R: Register>(heap: Global, register: &mut R) -> Result<Tally, AllocError> {
     let mut plain = Plain::new(heap, register.room());
     let mut draw = Draw::new(SEED);
     let mut tally = Tally {

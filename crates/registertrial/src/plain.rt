@@ -4,7 +4,7 @@ use std::alloc::{AllocError, Global};
 
 // A duty as three numbers, compared one after the other: the due minute; scan, reach, hold; what is asked.
 #[derive(Clone, Copy, PartialEq, Eq, PartialOrd, Ord)]
-pub struct Key {
+pub(crate) struct Key {
     due: u32,
     kind: u8,
     asked: u64,
@@ -17,7 +17,7 @@ fn literal_key(literal: Literal) -> u64 {
     }
 }
 
-pub fn key_of(d: Duty) -> Key {
+pub(crate) fn key_of(d: Duty) -> Key {
     let (kind, asked) = match d.task {
         Task::Scan(tags) => (0, tags.0),
         Task::Reach(literal) => (1, literal_key(literal)),
@@ -31,24 +31,24 @@ pub fn key_of(d: Duty) -> Key {
 }
 
 #[derive(Drop)]
-pub struct Plain {
+pub(crate) struct Plain {
     keys: Vec<Key>,
     room: usize,
 }
 
 impl Plain {
-    pub fn new(heap: Global, room: usize) -> Plain {
+    pub(crate) fn new(heap: Global, room: usize) -> Plain {
         Plain {
             keys: Vec::new(heap),
             room,
         }
     }
 
-    pub fn count(&self) -> usize {
+    pub(crate) fn count(&self) -> usize {
         self.keys.len()
     }
 
-    pub fn room(&self) -> usize {
+    pub(crate) fn room(&self) -> usize {
         self.room
     }
 
@@ -61,11 +61,11 @@ impl Plain {
         None
     }
 
-    pub fn held(&self, k: Key) -> bool {
+    pub(crate) fn held(&self, k: Key) -> bool {
         self.place(k).is_some()
     }
 
-    pub fn after(&self, from: Option<Key>) -> Option<Key> {
+    pub(crate) fn after(&self, from: Option<Key>) -> Option<Key> {
         let mut least = None;
         for k in self.keys.iter() {
             let above = match from {
@@ -83,7 +83,7 @@ impl Plain {
         least
     }
 
-    pub fn enter(&mut self, k: Key) -> Result<bool, AllocError> {
+    pub(crate) fn enter(&mut self, k: Key) -> Result<bool, AllocError> {
         if self.held(k) {
             return Ok(true);
         }
@@ -94,7 +94,7 @@ impl Plain {
         Ok(true)
     }
 
-    pub fn strike(&mut self, k: Key) -> bool {
+    pub(crate) fn strike(&mut self, k: Key) -> bool {
         match self.place(k) {
             Some(i) => {
                 if i < self.keys.len() {
@@ -106,7 +106,7 @@ impl Plain {
         }
     }
 
-    pub fn clear(&mut self) {
+    pub(crate) fn clear(&mut self) {
         self.keys.clear();
     }
 }
