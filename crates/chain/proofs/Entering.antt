@@ -1,7 +1,7 @@
 -- A duty that is linked in at its spot is entered. Assumes nothing.
-use Rattle.std.proofs.Common.{◌≡◌, ℕ, suc, ◌+◌, ◌-◌, ◌<◌, ◌≤◌, Bool, true, false, cond, ◌||◌, ltb, ◌⊎◌, List, ◌∷◌, ◌++◌, length, set, Some, None, Option, sym, refl, ap, ◌∙◌, subst, inl, inr, arith}
+use Rattle.std.proofs.Common.{◌≡◌, ℕ, suc, ◌+◌, ◌-◌, ◌<◌, ◌≤◌, Bool, true, false, ◌||◌, ltb, List, ◌∷◌, ◌++◌, length, set, Some, None, Option, Ok, Err, sym, refl, ap, ◌∙◌, subst, inl, inr, arith}
 use Rattle.std.proofs.lemmas.List.{length-set, length-append, map-append, get_or-set_same, get_or-set_other}
-use Rattle.std.proofs.lemmas.Bool.{or_left, or_right, or_from, lt-ltb, le-ltb, cases_lt}
+use Rattle.std.proofs.lemmas.Bool.{or_left, or_right, or_from, lt-ltb, le-ltb}
 use Rattle.std.proofs.lemmas.Bool.Decides.{not_from_Decides}
 use Rattle.ordered.specs.Ascending.{◌∈◌, holding, including}
 use Rattle.ordered.proofs.Walks.{including_old}
@@ -12,23 +12,23 @@ use Rattle.registers.specs.Meaning.{Lawful, SpareRowsLeftOpen}
 use Rattle.registers.proofs.Changes.{held, entered, entered_lawful}
 use Rattle.registers.proofs.Spares.{left_open_carries}
 use Rattle.chain.specs.Links.{aimed_from, begins, linked_in, ends_with}
-use Rattle.chain.specs.Spots.{Inside}
+use Rattle.chain.specs.Spots.{spot_of}
 use Rattle.chain.specs.Walk.{row_at, walk, duties_at, room_of, used, free, chained, Distinct, Linked, NoRowMoves}
 use Rattle.chain.specs.declared.find.Spot.{Spot}
 use Rattle.chain.specs.declared.link.Ends.{Ends}
 use Rattle.chain.specs.declared.link.Link.{Link}
 use Rattle.chain.proofs.Apart.{in_left, in_right, parts, With, with_between, with_inside}
-use Rattle.chain.proofs.Cuts.{Cut}
-use Rattle.chain.proofs.Leads.{Leads, walk_leads, leads_walk, leads_join, leads_set, leads_from, last_of, last_there, leads_turned, duty_from, duties_same}
-use Rattle.chain.proofs.Relinked.{length_walk, length_from, length_chained, free_inside, moved, spares_set, spares_from, Becomes, unwritten}
+use Rattle.chain.proofs.Cuts.{Cut, cut_at}
+use Rattle.chain.proofs.Leads.{Inside, Leads, walk_leads, leads_walk, leads_join, leads_set, leads_from, last_of, last_there, leads_turned, duty_from, duties_same}
+use Rattle.chain.proofs.Relinked.{length_walk, length_from, length_chained, free_inside, moved, spares_set, spares_from, Becomes}
 use Rattle.chain.proofs.Staying.{no_row_moves}
 
 -- the duty d is entered into a sound chain, which answers r
 abbrev pub Enters : List Link → Ends → Duty → Bool → List Link → Ends → Type 0
 Enters rows e d r = Becomes (λ ds. Entered d r (chained rows e) ds (room_of rows)) rows e
 
-pub not_there : (rows : List Link) (e : Ends) (d : Duty) (s : Spot) (k : Linked rows e) → Cut rows d None e.head e.count s → s.held ≡ false → d ∈ chained rows e → ⊥
-not_there rows e d s k cut h = not_from_Decides _ (held d (chained rows e) (room_of rows) k.lawful) (sym cut.answer ∙ h)
+pub not_there : (rows : List Link) (e : Ends) (d : Duty) (s : Spot) (k : Linked rows e) → Cut rows d None e.head e.count (Err s) → d ∈ chained rows e → ⊥
+not_there rows e d s k cut = not_from_Decides _ (held d (chained rows e) (room_of rows) k.lawful) (sym cut.answer)
 
 -- the row f is linked in between the places xs and ys, and is no more the first of the free ones
 record Joined (rows rows' : List Link) (head rest f : ℕ) (d : Duty) (xs ys fs : List ℕ) : Type 0 where
@@ -95,7 +95,7 @@ module _ (rows : List Link) (prev : Option ℕ) (head f to : ℕ) (d : Duty) (xs
     new = duty_new;
   }
 
-module _ (rows : List Link) (e : Ends) (d : Duty) (s : Spot) (k : Linked rows e) (cut : Cut rows d None e.head e.count s) (absent : s.held ≡ false) (more : e.count < room_of rows) where
+module _ (rows : List Link) (e : Ends) (d : Duty) (s : Spot) (k : Linked rows e) (cut : Cut rows d None e.head e.count (Err s)) (more : e.count < room_of rows) where
   abbrev xs : List ℕ
   xs = cut.front
 
@@ -144,7 +144,7 @@ module _ (rows : List Link) (e : Ends) (d : Duty) (s : Spot) (k : Linked rows e)
       (omega (arith, length_walk rows (row_at rows f).next (room_of rows - e.count - 1), same_length))
 
   set' : chained rows' e' ≡ including before d (chained rows e)
-  set' = ap (duties_at rows') used' ∙ joined.duties ∙ sym (cut.grown absent)
+  set' = ap (duties_at rows') used' ∙ joined.duties ∙ sym (cut.grown refl)
 
   spares' : SpareRowsLeftOpen rows rows'
   spares' =
@@ -164,7 +164,7 @@ module _ (rows : List Link) (e : Ends) (d : Duty) (s : Spot) (k : Linked rows e)
       let old-or-new = with_between f xs ys in
       let unused : f ∈ (xs ++ ys) → ⊥ = λ m. (parts (xs ++ ys) (f ∷ fs) (subst Distinct places k.once)).apart f m (inl refl) in
       no_row_moves rows rows' e e' k (λ q m. elim ((old-or-new.each q).0 (subst (λ (l : List ℕ). q ∈ l) used' m)) [
-        | inl i ↦ inr (λ there. not_there rows e d s k cut absent (subst (λ (c : Duty). c ∈ chained rows e) (ap (λ (r : ℕ). (row_at rows' r).duty) i ∙ joined.new) there))
+        | inl i ↦ inr (λ there. not_there rows e d s k cut (subst (λ (c : Duty). c ∈ chained rows e) (ap (λ (r : ℕ). (row_at rows' r).duty) i ∙ joined.new) there))
         | inr n ↦ inl (subst (λ (l : List ℕ). q ∈ l) (sym cut.whole) n, joined.others q (λ i. unused (subst (λ (r : ℕ). r ∈ (xs ++ ys)) i n)))
       ])
 
@@ -178,24 +178,25 @@ module _ (rows : List Link) (e : Ends) (d : Duty) (s : Spot) (k : Linked rows e)
         still = still';
       }
 
+-- the same of what the code wrote
+module _ {rows' : List Link} {e' : Ends} where
+  pub enters_as : (rows : List Link) (e : Ends) (d : Duty) (s : Spot) → Linked rows e → Err s ≡ spot_of rows d e.head e.count → e.count < room_of rows
+      → rows' ≡ linked_in rows s.prev e.free s.at d → e' ≡ ends_with e s.prev e.free (row_at rows e.free).next → Enters rows e d true rows' e'
+  enters_as rows e d s k is more as_rows as_ends =
+      subst (λ (l : List Link). Enters rows e d true l e') (sym as_rows)
+      (subst (Enters rows e d true (linked_in rows s.prev e.free s.at d)) (sym as_ends) (enters rows e d s k (cut_at rows e d (Err s) k is) more))
+
 -- where nothing is written: the duty is held, or the room is full
-module _ (rows : List Link) (e : Ends) (d : Duty) (s : Spot) (k : Linked rows e) (cut : Cut rows d None e.head e.count s) where
+module _ (rows : List Link) (e : Ends) (d : Duty) (s : Spot) (k : Linked rows e) where
   abbrev ds : List Duty
   ds = chained rows e
 
-  same : (r : Bool) → r ≡ (holding before d ds || ltb (length ds) (room_of rows)) → ds ≡ cond r (including before d ds) ds → Enters rows e d r rows e
-  same r answer is = unwritten _ rows e k (entered d ds (room_of rows) k.lawful r ds answer is)
+  pub enters_held : Ok s ≡ spot_of rows d e.head e.count → Entered d true ds ds (room_of rows)
+  enters_held is =
+      let there : holding before d ds ≡ true = sym (cut_at rows e d (Ok s) k is).answer in
+      entered d ds (room_of rows) k.lawful true ds (sym (or_left _ _ there)) (sym (including_old before d ds there))
 
-  pub enters_held : s.held ≡ true → Enters rows e d true rows e
-  enters_held h =
-      let there : holding before d ds ≡ true = sym cut.answer ∙ h in
-      same true (sym (or_left _ _ there)) (sym (including_old before d ds there))
-
-  pub enters_not : s.held ≡ false → (room_of rows ≤ e.count) ⊎ (length rows ≤ e.free) → Enters rows e d false rows e
-  enters_not h full =
-      let most : room_of rows ≤ e.count =
-      elim full [
-        | inl n ↦ n
-        | inr o ↦ elim (cases_lt e.count (room_of rows)) [ inl more ↦ absurd (omega (arith, free_inside rows e k more)) | inr n ↦ n ]
-      ] in
-      same false (sym (or_from _ _ (sym cut.answer ∙ h) (le-ltb (length ds) (room_of rows) (omega (arith, length_chained rows e))))) refl
+  pub enters_not : Err s ≡ spot_of rows d e.head e.count → room_of rows ≤ e.count → Entered d false ds ds (room_of rows)
+  enters_not is full =
+      entered d ds (room_of rows) k.lawful false ds
+      (sym (or_from _ _ (sym (cut_at rows e d (Err s) k is).answer) (le-ltb (length ds) (room_of rows) (omega (arith, length_chained rows e))))) refl

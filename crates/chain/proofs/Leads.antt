@@ -1,13 +1,16 @@
 -- Parts of a chain: what a write to the rows leaves of them, and how they join. Assumes nothing.
-use Rattle.std.proofs.Common.{◌≡◌, ℕ, zero, suc, ◌≢◌, List, [], ◌∷◌, ◌++◌, length, set, Some, None, Option, sym, refl, ap, ◌∙◌, subst, inl, inr, arith}
+use Rattle.std.proofs.Common.{◌≡◌, ℕ, zero, suc, ◌<◌, ◌≢◌, List, [], ◌∷◌, ◌++◌, length, set, Some, None, Option, sym, refl, ap, ◌∙◌, subst, inl, inr, arith}
 use Rattle.std.proofs.lemmas.List.{get_or-set_same, get_or-set_other, set_past}
 use Rattle.std.proofs.lemmas.Bool.{cases_eq, cases_lt}
 use Rattle.ordered.specs.Ascending.{◌∈◌}
 use Rattle.duties.specs.declared.duty.Duty.{Duty}
 use Rattle.chain.specs.Links.{aimed, aimed_from, begins}
-use Rattle.chain.specs.Spots.{Inside}
 use Rattle.chain.specs.Walk.{row_at, walk, duties_at, Distinct}
 use Rattle.chain.specs.declared.link.Link.{Link}
+
+-- all these places are rows
+abbrev pub Inside : List Link → List ℕ → Type 0
+Inside rows ps = (p : ℕ) → p ∈ ps → p < length rows
 
 -- from the place p through the rows at these places, each of which names the next, to the place t
 abbrev pub Leads : List Link → ℕ → List ℕ → ℕ → Type 0

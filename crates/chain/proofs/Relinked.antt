@@ -5,12 +5,11 @@ use Rattle.ordered.specs.Ascending.{◌∈◌}
 use Rattle.duties.specs.declared.duty.Duty.{Duty}
 use Rattle.registers.specs.Meaning.{Lawful, SpareRowsLeftOpen}
 use Rattle.chain.specs.Links.{aimed_from}
-use Rattle.chain.specs.Spots.{Inside}
 use Rattle.chain.specs.Walk.{row_at, walk, room_of, used, free, chained, Linked, NoRowMoves}
 use Rattle.chain.specs.declared.link.Ends.{Ends}
 use Rattle.chain.specs.declared.link.Link.{Link}
-use Rattle.chain.proofs.Staying.{no_row_moves}
 use Rattle.chain.proofs.Apart.{With, in_left, in_right}
+use Rattle.chain.proofs.Leads.{Inside}
 
 pub length_walk : (rows : List Link) (p k : ℕ) → length (walk rows p k) ≡ k
 length_walk rows p zero = refl
@@ -61,7 +60,3 @@ pub record Becomes (Set : List Duty → Type 0) (rows : List Link) (e : Ends) (r
   pub spares : SpareRowsLeftOpen rows rows'
   pub stays : Linked rows' e'
   pub still : NoRowMoves rows e rows' e'
-
--- where nothing is written
-pub unwritten : (Set : List Duty → Type 0) (rows : List Link) (e : Ends) → Linked rows e → Set (chained rows e) → Becomes Set rows e rows e
-unwritten Set rows e k h = record { does = h; spares = record { as_many = refl; past_the_room = refl }; stays = k; still = no_row_moves rows rows e e k (λ q m. inl (m, refl)) }

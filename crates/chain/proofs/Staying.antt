@@ -1,5 +1,5 @@
 -- A duty that stays in a chain stays in its row. Assumes nothing.
-use Rattle.std.proofs.Common.{◌≡◌, ℕ, true, ◌⊎◌, List, [], ◌∷◌, sym, ap, ◌∙◌, subst, inl, inr}
+use Rattle.std.proofs.Common.{◌≡◌, ℕ, true, ◌⊎◌, List, [], ◌∷◌, sym, refl, ap, ◌∙◌, subst, inl, inr}
 use Rattle.std.proofs.lemmas.Bool.{both_ways, and_parts}
 use Rattle.ordered.specs.Ascending.{◌∈◌, below, rising}
 use Rattle.duties.specs.Duties.{before}
@@ -42,3 +42,7 @@ module _ (rows : List Link) where
         | inl old ↦ same_place (used rows e) k.lawful.ascending p q m old.0 (same ∙ old.1)
         | inr new ↦ absurd (new (subst (λ (d : Duty). d ∈ chained rows e) same (in_duties p (used rows e) m)))
       ]
+
+-- where nothing is written
+pub at_rest : (rows : List Link) (e : Ends) → Linked rows e → NoRowMoves rows e rows e
+at_rest rows e k = no_row_moves rows rows e e k (λ q m. inl (m, refl))

@@ -1,5 +1,5 @@
 -- A duty whose row is taken out of the chain is struck. Assumes nothing.
-use Rattle.std.proofs.Common.{◌≡◌, ℕ, suc, ◌-◌, ◌<◌, Bool, true, false, List, ◌∷◌, ◌++◌, length, Some, None, Option, sym, refl, ap, ◌∙◌, subst, inl, inr, arith}
+use Rattle.std.proofs.Common.{◌≡◌, ℕ, suc, ◌-◌, ◌<◌, Bool, true, false, List, ◌∷◌, ◌++◌, length, Some, None, Option, Ok, Err, sym, refl, ap, ◌∙◌, subst, inl, inr, arith}
 use Rattle.std.proofs.lemmas.List.{length-set, length-append, map-append, get_or-set_same}
 use Rattle.ordered.specs.Ascending.{◌∈◌, holding, excluding}
 use Rattle.ordered.proofs.Walks.{excluding_none}
@@ -9,16 +9,16 @@ use Rattle.ordered.specs.Changes.{Struck}
 use Rattle.registers.specs.Meaning.{Lawful, SpareRowsLeftOpen}
 use Rattle.registers.proofs.Changes.{struck, struck_lawful}
 use Rattle.registers.proofs.Spares.{left_open_carries}
-use Rattle.chain.specs.Links.{aimed_from, begins, taken_out, ends_without_lem}
-use Rattle.chain.specs.Spots.{Inside}
+use Rattle.chain.specs.Links.{aimed_from, begins, taken_out, ends_without}
+use Rattle.chain.specs.Spots.{spot_of}
 use Rattle.chain.specs.Walk.{row_at, duties_at, room_of, used, free, chained, Distinct, Linked, NoRowMoves}
 use Rattle.chain.specs.declared.find.Spot.{Spot}
 use Rattle.chain.specs.declared.link.Ends.{Ends}
 use Rattle.chain.specs.declared.link.Link.{Link}
 use Rattle.chain.proofs.Apart.{in_left, in_right, parts, With, with_between, with_inside}
-use Rattle.chain.proofs.Cuts.{Cut}
-use Rattle.chain.proofs.Leads.{Leads, walk_leads, leads_walk, leads_join, leads_set, leads_from, last_of, last_there, leads_turned, duty_aimed, duty_from, duties_same}
-use Rattle.chain.proofs.Relinked.{length_walk, length_from, count_fits, moved, spares_set, spares_from, Becomes, unwritten}
+use Rattle.chain.proofs.Cuts.{Cut, cut_at}
+use Rattle.chain.proofs.Leads.{Inside, Leads, walk_leads, leads_walk, leads_join, leads_set, leads_from, last_of, last_there, leads_turned, duty_aimed, duty_from, duties_same}
+use Rattle.chain.proofs.Relinked.{length_walk, length_from, count_fits, moved, spares_set, spares_from, Becomes}
 use Rattle.chain.proofs.Staying.{no_row_moves}
 
 -- the duty d is struck from a sound chain, which answers r
@@ -72,7 +72,7 @@ module _ (rows : List Link) (prev : Option ℕ) (head p rest : ℕ) (xs zs fs : 
     duties = λ q. duty_aimed one p rest q ∙ duty_from rows prev to q;
   }
 
-module _ (rows : List Link) (e : Ends) (d : Duty) (s : Spot) (k : Linked rows e) (cut : Cut rows d None e.head e.count s) (present : s.held ≡ true) where
+module _ (rows : List Link) (e : Ends) (d : Duty) (s : Spot) (k : Linked rows e) (cut : Cut rows d None e.head e.count (Ok s)) where
   abbrev p : ℕ
   p = s.at
 
@@ -80,7 +80,7 @@ module _ (rows : List Link) (e : Ends) (d : Duty) (s : Spot) (k : Linked rows e)
   xs = cut.front
 
   abbrev zs : List ℕ
-  zs = (cut.fewer present).0
+  zs = (cut.fewer refl).0
 
   abbrev fs : List ℕ
   fs = free rows e
@@ -89,10 +89,10 @@ module _ (rows : List Link) (e : Ends) (d : Duty) (s : Spot) (k : Linked rows e)
   rows' = taken_out rows s.prev p e.free
 
   abbrev e' : Ends
-  e' = ends_without_lem e s.prev p (row_at rows p).next
+  e' = ends_without e s.prev p (row_at rows p).next
 
   used_is : used rows e ≡ xs ++ p ∷ zs
-  used_is = cut.whole ∙ ap (λ (l : List ℕ). xs ++ l) (cut.fewer present).1
+  used_is = cut.whole ∙ ap (λ (l : List ℕ). xs ++ l) (cut.fewer refl).1
 
   places : used rows e ++ fs ≡ (xs ++ p ∷ zs) ++ fs
   places = ap (λ (l : List ℕ). l ++ fs) used_is
@@ -111,7 +111,7 @@ module _ (rows : List Link) (e : Ends) (d : Duty) (s : Spot) (k : Linked rows e)
 
   parted : Parted rows rows' e'.head p xs zs fs
   parted =
-      let back : (t : ℕ) × Leads rows p (p ∷ zs) t = (cut.onward.0, subst (λ (l : List ℕ). Leads rows p l cut.onward.0) (cut.fewer present).1 cut.onward.1) in
+      let back : (t : ℕ) × Leads rows p (p ∷ zs) t = (cut.onward.0, subst (λ (l : List ℕ). Leads rows p l cut.onward.0) (cut.fewer refl).1 cut.onward.1) in
       part rows s.prev e.head p e.free xs zs fs cut.last (omega (arith, p_inside)) (λ q m. omega (arith, front_inside q m)) (subst Distinct places k.once)
       cut.leads (back.0, back.1.1) (walk_leads rows e.free (room_of rows - e.count))
 
@@ -127,7 +127,7 @@ module _ (rows : List Link) (e : Ends) (d : Duty) (s : Spot) (k : Linked rows e)
       (omega (arith, length_walk rows e.free (room_of rows - e.count), same_length, counted, count_fits rows e k))
 
   set' : chained rows' e' ≡ excluding before d (chained rows e)
-  set' = ap (duties_at rows') used' ∙ duties_same rows rows' (xs ++ zs) (λ q m. parted.duties q) ∙ map-append (λ q. (row_at rows q).duty) xs zs ∙ sym (cut.fewer present).2
+  set' = ap (duties_at rows') used' ∙ duties_same rows rows' (xs ++ zs) (λ q m. parted.duties q) ∙ map-append (λ q. (row_at rows q).duty) xs zs ∙ sym (cut.fewer refl).2
 
   spares' : SpareRowsLeftOpen rows rows'
   spares' =
@@ -149,7 +149,7 @@ module _ (rows : List Link) (e : Ends) (d : Duty) (s : Spot) (k : Linked rows e)
 
   pub strikes : Strikes rows e d true rows' e'
   strikes =
-      let answer : true ≡ holding before d (chained rows e) = sym present ∙ cut.answer in
+      let answer : true ≡ holding before d (chained rows e) = cut.answer in
       record {
         does = struck d (chained rows e) (room_of rows) k.lawful true (chained rows' e') answer set';
         spares = spares';
@@ -157,7 +157,16 @@ module _ (rows : List Link) (e : Ends) (d : Duty) (s : Spot) (k : Linked rows e)
         still = still';
       }
 
-pub strikes_not : (rows : List Link) (e : Ends) (d : Duty) (s : Spot) (k : Linked rows e) → Cut rows d None e.head e.count s → s.held ≡ false → Strikes rows e d false rows e
-strikes_not rows e d s k cut absent =
-    let answer : false ≡ holding before d (chained rows e) = sym absent ∙ cut.answer in
-    unwritten _ rows e k (struck d (chained rows e) (room_of rows) k.lawful false (chained rows e) answer (sym (excluding_none before d (chained rows e) (sym answer))))
+-- the same of what the code wrote
+module _ {rows' : List Link} {e' : Ends} where
+  pub strikes_as : (rows : List Link) (e : Ends) (d : Duty) (s : Spot) → Linked rows e → Ok s ≡ spot_of rows d e.head e.count
+      → rows' ≡ taken_out rows s.prev s.at e.free → e' ≡ ends_without e s.prev s.at (row_at rows s.at).next → Strikes rows e d true rows' e'
+  strikes_as rows e d s k is as_rows as_ends =
+      subst (λ (l : List Link). Strikes rows e d true l e') (sym as_rows)
+      (subst (Strikes rows e d true (taken_out rows s.prev s.at e.free)) (sym as_ends) (strikes rows e d s k (cut_at rows e d (Ok s) k is)))
+
+-- where nothing is written
+pub strikes_not : (rows : List Link) (e : Ends) (d : Duty) (s : Spot) → Linked rows e → Err s ≡ spot_of rows d e.head e.count → Struck d false (chained rows e) (chained rows e)
+strikes_not rows e d s k is =
+    let answer : false ≡ holding before d (chained rows e) = (cut_at rows e d (Err s) k is).answer in
+    struck d (chained rows e) (room_of rows) k.lawful false (chained rows e) answer (sym (excluding_none before d (chained rows e) (sym answer)))

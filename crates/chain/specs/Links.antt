@@ -1,5 +1,5 @@
 -- What entering, striking and clearing do to the rows of a chain. Assumes nothing.
-use Rattle.std.specs.Prelude.{◌≡◌, ℕ, ◌+◌, ◌-◌, ◌<◌, ◌≤◌, ◌⊎◌, List, length, Some, None, Option, slice_set}
+use Rattle.std.specs.Prelude.{◌≡◌, ℕ, ◌+◌, ◌-◌, ◌<◌, List, Some, None, Option, slice_set}
 use Rattle.duties.specs.declared.duty.Duty.{Duty}
 use Rattle.chain.specs.Walk.{row_at, room_of}
 use Rattle.chain.specs.declared.link.Ends.{Ends}
@@ -19,11 +19,6 @@ abbrev pub begins : Option ℕ → ℕ → ℕ → ℕ
 begins None q head = q
 begins (Some p) q head = head
 
--- the row behind the first free one; none where the room is full, or the first free one is no row
-abbrev pub Spare : List Link → Ends → Option ℕ → Type 0
-Spare rows e None = (room_of rows ≤ e.count) ⊎ (length rows ≤ e.free)
-Spare rows e (Some p) = (e.count < room_of rows) × (e.free < length rows) × (p ≡ (row_at rows e.free).next)
-
 -- the row f has d, and stands before the row at q
 abbrev pub linked_in : List Link → Option ℕ → ℕ → ℕ → Duty → List Link
 linked_in rows prev f q d = aimed_from (slice_set rows f (record { duty = d; next = q })) prev f
@@ -35,8 +30,8 @@ ends_with e prev f rest = record { head = begins prev f e.head; free = rest; cou
 abbrev pub taken_out : List Link → Option ℕ → ℕ → ℕ → List Link
 taken_out rows prev p rest = aimed (aimed_from rows prev (row_at rows p).next) p rest
 
-abbrev pub ends_without_lem : Ends → Option ℕ → ℕ → ℕ → Ends
-ends_without_lem e prev p q = record { head = begins prev q e.head; free = p; count = e.count - 1 }
+abbrev pub ends_without : Ends → Option ℕ → ℕ → ℕ → Ends
+ends_without e prev p q = record { head = begins prev q e.head; free = p; count = e.count - 1 }
 
 -- each row of the room names the one after it
 abbrev pub Strung : List Link → Type 0

@@ -1,10 +1,11 @@
 // Where a duty belongs in a chain, and which comes after it.
-ghost use Rattle.std.specs.Prelude.{◌≡◌, ℕ, ◌<◌, true, length, Some, None};
+ghost use Rattle.std.specs.Prelude.{◌≡◌, map};
 ghost use Rattle.duties.specs.Duties.{before};
-ghost use Rattle.chain.specs.Spots.{spot_of, stops_at, Inside, is_above_lem, next_above};
-ghost use Rattle.chain.specs.Walk.{walk, duties_at};
+ghost use Rattle.chain.specs.Spots.{spot_of, stops_at, comes_above, next_above};
+ghost use Rattle.chain.specs.Walk.{trail};
 
-use crate::link::{Link, row_at};
+use crate::link::{Ends, Link};
+use crate::walk::Walk;
 use duties::Duty;
 use ordered::TotalOrder;
 
@@ -13,80 +14,57 @@ use ordered::TotalOrder;
 pub(crate) struct Spot {
     pub(crate) prev: Option<usize>,
     pub(crate) at: usize,
-    pub(crate) held: bool,
 }
 
-fn is_before(row: Link, d: Duty) -> bool
-    ensures { result ≡ before row.duty d }
+fn is_before(row: &Link, d: Duty) -> bool
+    ensures { result ≡ before row.now.duty d }
 {
     row.duty.is_less(&d)
 }
 
 // At a row that is not before the duty.
-fn stop_at(prev: Option<usize>, at: usize, row: Link, d: Duty) -> Spot
-    ensures { result ≡ stops_at prev at row d }
+fn stop_at(spot: Spot, row: &Link, d: Duty) -> Result<Spot, Spot>
+    ensures { result ≡ stops_at spot row.now d }
 {
-    Spot {
-        prev,
-        at,
-        held: !d.is_less(&row.duty),
+    if d.is_less(&row.duty) {
+        Err(spot)
+    } else {
+        Ok(spot)
     }
 }
 
-// The spot of a duty among the `count` rows from `head` on.
-// In a sound chain each of them is a row; the second test keeps any other safe.
-pub(crate) fn find(rows: &[Link], head: usize, count: usize, d: Duty) -> Spot
-    ensures spot { result ≡ spot_of rows.now d None head count }
-    ensures prev { (p : ℕ) → result.prev ≡ Some p → p < length rows.now }
-    ensures own { result.held ≡ true → (result.at < length rows.now) × (0 < count) }
+// Ok with the duty's own spot, or Err with the spot where it would go.
+pub(crate) fn find(rows: &[Link], ends: Ends, d: Duty) -> Result<Spot, Spot>
+    ensures { result ≡ spot_of rows.now d ends.head ends.count }
 {
-    let mut prev = None;
-    let mut at = head;
-    let mut left = count;
-    while left > 0 && at < rows.len() {
-        let row = row_at(rows, at);
+    let mut spot = Spot {
+        prev: None,
+        at: ends.head,
+    };
+    for row in Walk::new(rows, ends) {
         if !is_before(row, d) {
-            return stop_at(prev, at, row, d);
+            return stop_at(spot, row, d);
         }
-        prev = Some(at);
-        at = row.next;
-        left -= 1;
+        spot = Spot {
+            prev: Some(spot.at),
+            at: row.next,
+        };
     }
-    Spot {
-        prev,
-        at,
-        held: false,
-    }
+    Err(spot)
 }
 
-// Whether a row's duty is above the given one; any is, where none is given.
-fn is_above(row: Link, from: Option<Duty>) -> bool
-    ensures { result ≡ is_above_lem from row.duty }
+// Whether a duty is above the given one; any is, where none is given.
+fn is_above(duty: &Duty, from: Option<Duty>) -> bool
+    ensures { result ≡ comes_above from duty.now }
 {
-    match from {
-        None => true,
-        Some(d) => d.is_less(&row.duty),
-    }
+    from.is_none_or(|d| d.is_less(duty))
 }
 
-// The first duty above the given one, among those of the `count` rows from `head` on.
-pub(crate) fn first_above(
-    rows: &[Link],
-    head: usize,
-    count: usize,
-    from: Option<Duty>,
-) -> Option<Duty>
-    ensures { Inside rows.now (walk rows.now head count) → result ≡ next_above from (duties_at rows.now (walk rows.now head count)) }
+// The first duty above the given one.
+pub(crate) fn first_above(rows: &[Link], ends: Ends, from: Option<Duty>) -> Option<Duty>
+    ensures { result ≡ next_above from (map (λ row. row.duty) (trail rows.now ends.head ends.count)) }
 {
-    let mut at = head;
-    let mut left = count;
-    while left > 0 && at < rows.len() {
-        let row = row_at(rows, at);
-        if is_above(row, from) {
-            return Some(row.duty);
-        }
-        at = row.next;
-        left -= 1;
-    }
-    None
+    Walk::new(rows, ends)
+        .map(|row| row.duty)
+        .find(|duty| is_above(duty, from))
 }

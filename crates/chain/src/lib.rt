@@ -6,6 +6,7 @@ mod link;
 mod relink;
 #[cfg(test)]
 mod tests;
+mod walk;
 
 pub use chain::Chain;
 pub use link::Link;

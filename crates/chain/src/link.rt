@@ -1,9 +1,10 @@
-ghost use Rattle.std.specs.Prelude.{◌≡◌, ◌<◌, length};
-ghost use Rattle.chain.specs.Walk.{row_at, room_of};
+ghost use Rattle.std.specs.Prelude.{◌≡◌};
+ghost use Rattle.chain.specs.Walk.{room_of};
 
 use duties::Duty;
 
 // A row of a chain: a duty, and the place of the row that comes next.
+// A place, and no pointer or box: the rows are memory that the caller lends, they never move, and nothing is allocated.
 #[derive(Clone, Copy)]
 pub struct Link {
     pub duty: Duty,
@@ -16,13 +17,6 @@ pub(crate) struct Ends {
     pub(crate) head: usize,
     pub(crate) free: usize,
     pub(crate) count: usize,
-}
-
-pub(crate) fn row_at(rows: &[Link], p: usize) -> Link
-    requires { p < length rows.now }
-    ensures { result ≡ row_at rows.now p }
-{
-    rows[p]
 }
 
 // How many duties fit: as many as there are rows, and no more than 64.

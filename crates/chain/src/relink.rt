@@ -1,20 +1,13 @@
 // What entering, striking and clearing do to the rows of a chain, and to its ends.
+// That a spot lies within the rows is a fact about two values, the spot and the rows, so no type can keep it: it stands as a premise.
 ghost use Rattle.std.specs.Prelude.{◌≡◌, ℕ, ◌<◌, [], length, Some};
 ghost use Rattle.registers.specs.Meaning.{SpareRowsLeftOpen};
-ghost use Rattle.chain.specs.Links.{aimed, aimed_from, begins, Spare, linked_in, ends_with, taken_out, ends_without_lem, Strung};
+ghost use Rattle.chain.specs.Links.{aimed_from, begins, linked_in, ends_with, taken_out, ends_without, Strung};
 ghost use Rattle.chain.specs.Walk.{row_at, chained, Linked};
 
-use crate::link::{Ends, Link, room_of, row_at};
+use crate::find::Spot;
+use crate::link::{Ends, Link, room_of};
 use duties::Duty;
-
-// The row at p names the row at `to`.
-fn aim(rows: &mut [Link], p: usize, to: usize)
-    requires { p < length rows.old }
-    ensures { rows.new ≡ aimed rows.old p to }
-{
-    let duty = row_at(rows, p).duty;
-    rows[p] = Link { duty, next: to };
-}
 
 // The row that comes before names the row at `to`, where there is one.
 fn aim_from(rows: &mut [Link], prev: Option<usize>, to: usize)
@@ -22,7 +15,7 @@ fn aim_from(rows: &mut [Link], prev: Option<usize>, to: usize)
     ensures { rows.new ≡ aimed_from rows.old prev to }
 {
     if let Some(p) = prev {
-        aim(rows, p, to);
+        rows[p].next = to;
     }
 }
 
@@ -36,61 +29,41 @@ fn begin(prev: Option<usize>, to: usize, head: usize) -> usize
     }
 }
 
-// The row behind the first free one. None where the room is full.
-// In a sound chain that is not full the first free one is a row; the second test keeps any other safe.
-pub(crate) fn spare(rows: &[Link], ends: Ends) -> Option<usize>
-    ensures { Spare rows.now ends result }
+// The first free row takes the duty, at its spot.
+pub(crate) fn link_in(rows: &mut [Link], ends: Ends, spot: Spot, d: Duty) -> Ends
+    requires prev { (p : ℕ) → spot.prev ≡ Some p → p < length rows.old }
+    requires free { ends.free < length rows.old }
+    requires room { ends.count < 64 }
+    ensures rows { rows.new ≡ linked_in rows.old spot.prev ends.free spot.at d }
+    ensures ends { result ≡ ends_with ends spot.prev ends.free (row_at rows.old ends.free).next }
 {
-    if ends.count >= room_of(rows) || ends.free >= rows.len() {
-        return None;
-    }
-    Some(row_at(rows, ends.free).next)
-}
-
-// The free row at f takes the duty, and its place behind `prev` and before the row at `to`.
-pub(crate) fn link_in(rows: &mut [Link], prev: Option<usize>, f: usize, to: usize, d: Duty)
-    requires prev { (p : ℕ) → prev ≡ Some p → p < length rows.old }
-    requires free { f < length rows.old }
-    ensures { rows.new ≡ linked_in rows.old prev f to d }
-{
-    rows[f] = Link { duty: d, next: to };
-    aim_from(rows, prev, f);
-}
-
-// The ends once the row at f is linked in, with the free rows from `rest` on.
-pub(crate) fn ends_with(ends: Ends, prev: Option<usize>, f: usize, rest: usize) -> Ends
-    requires { ends.count < 64 }
-    ensures { result ≡ ends_with ends prev f rest }
-{
+    let rest = rows[ends.free].next;
+    rows[ends.free] = Link {
+        duty: d,
+        next: spot.at,
+    };
+    aim_from(rows, spot.prev, ends.free);
     Ends {
-        head: begin(prev, f, ends.head),
+        head: begin(spot.prev, ends.free, ends.head),
         free: rest,
         count: ends.count + 1,
     }
 }
 
-// The row at p leaves its place behind `prev`, and becomes the first of the free rows.
-// Answers the row that came behind it.
-pub(crate) fn take_out(rows: &mut [Link], prev: Option<usize>, p: usize, free: usize) -> usize
-    requires prev { (q : ℕ) → prev ≡ Some q → q < length rows.old }
-    requires there { p < length rows.old }
-    ensures rows { rows.new ≡ taken_out rows.old prev p free }
-    ensures behind { result ≡ (row_at rows.old p).next }
+// The row at the spot leaves its place, and becomes the first of the free rows.
+pub(crate) fn take_out(rows: &mut [Link], ends: Ends, spot: Spot) -> Ends
+    requires prev { (p : ℕ) → spot.prev ≡ Some p → p < length rows.old }
+    requires there { spot.at < length rows.old }
+    requires some { 0 < ends.count }
+    ensures rows { rows.new ≡ taken_out rows.old spot.prev spot.at ends.free }
+    ensures ends { result ≡ ends_without ends spot.prev spot.at (row_at rows.old spot.at).next }
 {
-    let to = row_at(rows, p).next;
-    aim_from(rows, prev, to);
-    aim(rows, p, free);
-    to
-}
-
-// The ends once the row at p is taken out, behind which the row at `to` came.
-pub(crate) fn ends_without(ends: Ends, prev: Option<usize>, p: usize, to: usize) -> Ends
-    requires { 0 < ends.count }
-    ensures { result ≡ ends_without_lem ends prev p to }
-{
+    let to = rows[spot.at].next;
+    aim_from(rows, spot.prev, to);
+    rows[spot.at].next = ends.free;
     Ends {
-        head: begin(prev, to, ends.head),
-        free: p,
+        head: begin(spot.prev, to, ends.head),
+        free: spot.at,
         count: ends.count - 1,
     }
 }
@@ -101,8 +74,8 @@ fn string_up(rows: &mut [Link])
     ensures spares { SpareRowsLeftOpen rows.old rows.new }
 {
     let room = room_of(rows);
-    for p in 0..room {
-        aim(rows, p, p + 1);
+    for (p, row) in rows[..room].iter_mut().enumerate() {
+        row.next = p + 1;
     }
 }
 

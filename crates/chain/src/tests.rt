@@ -14,35 +14,21 @@ fn hold(due: u32) -> Duty {
 
 // Just the duties that are due at these minutes, in this order.
 fn has_just(chain: &Chain, dues: &[u32]) -> bool {
-    let mut from = None;
-    for due in dues {
-        let Some(d) = chain.after(from) else {
-            return false;
-        };
-        if d.due != *due || !chain.held(d) {
-            return false;
-        }
-        from = Some(d);
-    }
-    chain.after(from).is_none() && chain.count() == dues.len()
+    let mut last = None;
+    let has_each = dues.iter().all(|due| {
+        last = chain.after(last);
+        last.is_some_and(|d| d.due == *due && chain.held(d))
+    });
+    has_each && chain.after(last).is_none() && chain.count() == dues.len()
 }
 
+// One line each: over a closure the calls below would be longer.
 fn enters(chain: &mut Chain, dues: &[u32]) -> bool {
-    for due in dues {
-        if !chain.enter(hold(*due)) {
-            return false;
-        }
-    }
-    true
+    dues.iter().all(|due| chain.enter(hold(*due)))
 }
 
 fn strikes(chain: &mut Chain, dues: &[u32]) -> bool {
-    for due in dues {
-        if !chain.strike(hold(*due)) {
-            return false;
-        }
-    }
-    true
+    dues.iter().all(|due| chain.strike(hold(*due)))
 }
 
 // A full chain: one more is refused, and one that is held is not; then out at the front, in the middle and at the end, and in again.

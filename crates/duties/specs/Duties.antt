@@ -11,6 +11,15 @@ abbrev pub count : Literal → ℕ
 count (Is n) = 2 * n
 count (Not n) = 2 * n + 1
 
+-- a literal's point, and whether it says that the point does not hold
+abbrev pub point : Literal → ℕ
+point (Is n) = n
+point (Not n) = n
+
+abbrev pub denied : Literal → Bool
+denied (Is n) = false
+denied (Not n) = true
+
 -- scan, reach, hold
 abbrev pub kind : Task → ℕ
 kind (Scan s) = 0

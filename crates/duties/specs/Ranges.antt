@@ -84,38 +84,38 @@ abbrev pub literal_apart : Order → Bool
 literal_apart o = duty_statement o.effect || (not (duty_event o.event) && not (some duty_condition o.conditions))
 
 -- T stands in a due
-abbrev pub has_t_lem : Due → Bool
-has_t_lem (At u) = false
-has_t_lem (Now c) = false
-has_t_lem (Then c) = true
+abbrev pub on_t : Due → Bool
+on_t (At u) = false
+on_t (Now c) = false
+on_t (Then c) = true
 
 -- T stands in a statement, in one that asks for a duty, in one that denies it, in a duty event
-abbrev pub statement_has_t_lem : Statement → Bool
-statement_has_t_lem (Says l) = false
-statement_has_t_lem (Asks p) = has_t_lem p.due
-statement_has_t_lem (Denies p) = has_t_lem p.due
+abbrev pub statement_on_t : Statement → Bool
+statement_on_t (Says l) = false
+statement_on_t (Asks p) = on_t p.due
+statement_on_t (Denies p) = on_t p.due
 
-abbrev pub asks_with_t_lem : Option Statement → Bool
-asks_with_t_lem None = false
-asks_with_t_lem (Some (Says l)) = false
-asks_with_t_lem (Some (Asks p)) = has_t_lem p.due
-asks_with_t_lem (Some (Denies p)) = false
+abbrev pub asks_on_t : Option Statement → Bool
+asks_on_t None = false
+asks_on_t (Some (Says l)) = false
+asks_on_t (Some (Asks p)) = on_t p.due
+asks_on_t (Some (Denies p)) = false
 
-abbrev pub denies_with_t_lem : Option Statement → Bool
-denies_with_t_lem None = false
-denies_with_t_lem (Some (Says l)) = false
-denies_with_t_lem (Some (Asks p)) = false
-denies_with_t_lem (Some (Denies p)) = has_t_lem p.due
+abbrev pub denies_on_t : Option Statement → Bool
+denies_on_t None = false
+denies_on_t (Some (Says l)) = false
+denies_on_t (Some (Asks p)) = false
+denies_on_t (Some (Denies p)) = on_t p.due
 
-abbrev pub event_has_t_lem : Event → Bool
-event_has_t_lem (Tags s) = false
-event_has_t_lem (Met p) = has_t_lem p.due
-event_has_t_lem (Failed p) = has_t_lem p.due
+abbrev pub event_on_t : Event → Bool
+event_on_t (Tags s) = false
+event_on_t (Met p) = on_t p.due
+event_on_t (Failed p) = on_t p.due
 
 -- T in the effect or under "no" in a condition is bound: a duty event or a plain duty condition has T
 abbrev pub t_bound : Order → Bool
 t_bound o =
-    not (statement_has_t_lem o.effect || some denies_with_t_lem o.conditions) || (event_has_t_lem o.event || some asks_with_t_lem o.conditions)
+    not (statement_on_t o.effect || some denies_on_t o.conditions) || (event_on_t o.event || some asks_on_t o.conditions)
 
 -- the conditions fill the places from the first on
 abbrev pub packed : List (Option Statement) → Bool

@@ -3,6 +3,7 @@
 // A number that comes from outside may be anything its type admits; the definitions in specs/ say which are in range.
 mod duty;
 mod duty_order;
+mod literal_order;
 mod order;
 mod row;
 mod sets;

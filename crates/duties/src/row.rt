@@ -1,7 +1,7 @@
 use crate::duty::Duty;
 
 // What became of a duty.
-#[derive(Clone, Copy)]
+#[derive(Clone, Copy, PartialEq, Eq)]
 pub enum Mark {
     Opened,
     Met,
@@ -10,7 +10,7 @@ pub enum Mark {
 }
 
 // A row of the slate, which is the journal of a watch: at this minute the duty was opened or closed so.
-#[derive(Clone, Copy)]
+#[derive(Clone, Copy, PartialEq, Eq)]
 pub struct Row {
     pub minute: u32,
     pub mark: Mark,

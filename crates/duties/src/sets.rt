@@ -1,13 +1,13 @@
-// Sets of the numbers 0 to 63. As a number, a set is the sum of 2^n over its members n.
+// Sets of the numbers 0 to 63. As a number, a set is the sum of 2^n over its members n: a word, which is copied and needs no heap.
 ghost use Rattle.std.specs.Prelude.{◌≡◌, ℕ, ◌/◌, ◌%◌, ◌^◌, ◌<◌, ◌⊎◌, ◌↔◌, bit_or};
 ghost use Rattle.duties.specs.Sets.{Has, adding, has};
 
 // Some of the tags.
-#[derive(Clone, Copy)]
+#[derive(Clone, Copy, PartialEq, Eq, PartialOrd, Ord)]
 pub struct TagSet(pub u64);
 
-// Some of the points: those that hold.
-#[derive(Clone, Copy)]
+// Some of the points: those that hold. A type of its own, so that no point is taken for a tag.
+#[derive(Clone, Copy, PartialEq, Eq)]
 pub struct PointSet(pub u64);
 
 // The bit of a word at a place.

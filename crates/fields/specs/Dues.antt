@@ -11,7 +11,6 @@ use Rattle.fields.specs.declared.due.DueForm.{DueForm}
 use Rattle.fields.specs.declared.due.DueForm.TheVariants as F
 use Rattle.fields.specs.declared.fault.Cause.{Cause}
 use Rattle.fields.specs.declared.fault.Cause.TheVariants.{Over}
-use Rattle.fields.specs.declared.fault.WordFault.{WordFault}
 use Rattle.fields.specs.Reading.{and_then}
 
 -- the shape of a due, with the digits that it has
@@ -25,7 +24,7 @@ due_form (F.At s) = at s.now
 due_form (F.Now s) = from_now s.now
 due_form (F.Then s) = from_t s.now
 
-abbrev pub forms : Result DueForm WordFault → Result Form WordFault
+abbrev pub forms : {E : Type 0} → Result DueForm E → Result Form E
 forms (Ok d) = Ok (due_form d)
 forms (Err e) = Err e
 

@@ -72,11 +72,11 @@ literal_of points bs =
     by (past (codes "!") bs) (λ rest. and_then (point_of points (class_of rest)) (λ n. Ok (L.Not n))) (and_then (point_of points (class_of bs)) (λ n. Ok (L.Is n)))
 
 -- two words and no more
-abbrev pub two_words_lem : List (List ℕ) → Result (List ℕ × List ℕ) Cause
-two_words_lem [] = Err Shape
-two_words_lem (a ∷ []) = Err Shape
-two_words_lem (a ∷ b ∷ []) = Ok (a, b)
-two_words_lem (a ∷ b ∷ c ∷ ws) = Err Shape
+abbrev pub word_pair : List (List ℕ) → Result (List ℕ × List ℕ) Cause
+word_pair [] = Err Shape
+word_pair (a ∷ []) = Err Shape
+word_pair (a ∷ b ∷ []) = Ok (a, b)
+word_pair (a ∷ b ∷ c ∷ ws) = Err Shape
 
 abbrev pub pattern : Due → Task → DutyPattern
 pattern u t = record { due = u; task = t }
@@ -84,7 +84,7 @@ pattern u t = record { due = u; task = t }
 -- after `scan `: a due and names joined by +
 abbrev pub scan_of : List Name → List ℕ → Result DutyPattern Cause
 scan_of tags bs =
-    and_then (two_words_lem (split 32 bs)) (λ w.
+    and_then (word_pair (split 32 bs)) (λ w.
     and_then (shaped (form_of (parts w.0))) (λ form.
     and_then (named (parts w.1)) (λ _.
     and_then (due_of form) (λ u.
@@ -93,7 +93,7 @@ scan_of tags bs =
 -- after `reach ` or `hold `: a due and a literal
 abbrev pub on_literal : List Name → List ℕ → Result (Due × Literal) Cause
 on_literal points bs =
-    and_then (two_words_lem (split 32 bs)) (λ w.
+    and_then (word_pair (split 32 bs)) (λ w.
     and_then (shaped (form_of (parts w.0))) (λ form.
     and_then (literal_shape w.1) (λ _.
     and_then (due_of form) (λ u.

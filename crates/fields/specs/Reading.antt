@@ -26,6 +26,6 @@ placed f (Ok x) = Ok x
 placed f (Err e) = Err (record { field = f; cause = e })
 
 -- two parts of a text, by their bytes
-abbrev pub pairs : Result (Bor (List ℕ) × Bor (List ℕ)) WordFault → Result (List ℕ × List ℕ) WordFault
+abbrev pub pairs : {E : Type 0} → Result (Bor (List ℕ) × Bor (List ℕ)) E → Result (List ℕ × List ℕ) E
 pairs (Ok p) = Ok (p.0.now, p.1.now)
 pairs (Err e) = Err e

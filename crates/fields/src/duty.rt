@@ -1,87 +1,75 @@
 // A duty: `scan`, `reach` or `hold`, a due, and names joined by `+` or a literal.
-ghost use Rattle.std.specs.Prelude.{◌≡◌, ◌≤◌, length};
+ghost use Rattle.std.specs.Prelude.{◌≡◌};
 ghost use Rattle.text.specs.Split.{split};
-ghost use Rattle.fields.specs.Reading.{pairs, placed};
-ghost use Rattle.fields.specs.Fields.{duty_of, on_literal, scan_of, two_words_lem};
+ghost use Rattle.fields.specs.Reading.{pairs};
+ghost use Rattle.fields.specs.Fields.{duty_of, on_literal, scan_of, word_pair};
 
 use crate::due::{read_form, read_value};
-use crate::fault::{WordFault, misshapen};
-use crate::fronts::{after_hold, after_reach, after_scan};
+use crate::fault::Cause;
 use crate::literal::{check_literal, find_literal};
+use crate::name_list::{Declared, NameList};
 use crate::set::{check_names, collect_tags};
 use duties::{Due, DutyPattern, Literal, Task};
-use names::Name;
-use text::cut;
+use text::{Pieces, after};
 
 // The two words of what follows a duty's key word.
-fn two_words<'a>(field: usize, bytes: &'a [u8]) -> Result<(&'a [u8], &'a [u8]), WordFault>
-    ensures { pairs result ≡ placed field (two_words_lem (split 32 bytes.now)) }
+fn two_words(bytes: &[u8]) -> Result<(&[u8], &[u8]), Cause>
+    ensures { pairs result ≡ word_pair (split 32 bytes.now) }
 {
-    let (first, more) = cut(bytes, b' ');
-    let Some(rest) = more else {
-        return Err(misshapen(field));
-    };
-    let (second, more) = cut(rest, b' ');
-    let None = more else {
-        return Err(misshapen(field));
-    };
-    Ok((first, second))
+    let mut words = Pieces::of(bytes, b' ');
+    match (words.next(), words.next(), words.next()) {
+        (Some(first), Some(second), None) => Ok((first, second)),
+        _ => Err(Cause::Shape),
+    }
 }
 
 // The shapes of both words come before their values.
-fn read_scan(field: usize, tags: &[Name], bytes: &[u8]) -> Result<DutyPattern, WordFault>
-    requires { length tags.now ≤ 64 }
-    ensures { result ≡ placed field (scan_of tags.now bytes.now) }
+fn read_scan(tags: NameList<'_>, bytes: &[u8]) -> Result<DutyPattern, Cause>
+    ensures { result ≡ scan_of tags.entry.names.now bytes.now }
 {
-    let (due, asked) = two_words(field, bytes)?;
-    let form = read_form(field, due)?;
-    check_names(field, asked)?;
-    let due = read_value(field, form)?;
-    let set = collect_tags(field, tags, asked)?;
+    let (due, asked) = two_words(bytes)?;
+    let form = read_form(due)?;
+    check_names(asked)?;
+    let due = read_value(form)?;
+    let set = collect_tags(tags, asked)?;
     Ok(DutyPattern {
         due,
         task: Task::Scan(set),
     })
 }
 
-fn read_on_literal(field: usize, points: &[Name], bytes: &[u8]) -> Result<(Due, Literal), WordFault>
-    requires { length points.now ≤ 64 }
-    ensures { result ≡ placed field (on_literal points.now bytes.now) }
+fn read_on_literal(points: NameList<'_>, bytes: &[u8]) -> Result<(Due, Literal), Cause>
+    ensures { result ≡ on_literal points.entry.names.now bytes.now }
 {
-    let (due, asked) = two_words(field, bytes)?;
-    let form = read_form(field, due)?;
-    check_literal(field, asked)?;
-    let due = read_value(field, form)?;
-    let literal = find_literal(field, points, asked)?;
+    let (due, asked) = two_words(bytes)?;
+    let form = read_form(due)?;
+    check_literal(asked)?;
+    let due = read_value(form)?;
+    let literal = find_literal(points, asked)?;
     Ok((due, literal))
 }
 
-pub(crate) fn read_duty(
-    field: usize,
-    tags: &[Name],
-    points: &[Name],
-    bytes: &[u8],
-) -> Result<DutyPattern, WordFault>
-    requires tags_few { length tags.now ≤ 64 }
-    requires points_few { length points.now ≤ 64 }
-    ensures { result ≡ placed field (duty_of tags.now points.now bytes.now) }
-{
-    if let Some(rest) = after_scan(bytes) {
-        return read_scan(field, tags, rest);
+impl Declared<'_> {
+    pub(crate) fn read_duty(&self, bytes: &[u8]) -> Result<DutyPattern, Cause>
+        ensures { result ≡ duty_of self.now.tags.names.now self.now.points.names.now bytes.now }
+    {
+        if let Some(rest) = after(bytes, b"scan ") {
+            return read_scan(self.tags, rest);
+        }
+        if let Some(rest) = after(bytes, b"reach ") {
+            let (due, literal) = read_on_literal(self.points, rest)?;
+            return Ok(DutyPattern {
+                due,
+                task: Task::Reach(literal),
+            });
+        }
+        if let Some(rest) = after(bytes, b"hold ") {
+            let (due, literal) = read_on_literal(self.points, rest)?;
+            return Ok(DutyPattern {
+                due,
+                task: Task::Hold(literal),
+            });
+        }
+        Err(Cause::Shape)
     }
-    if let Some(rest) = after_reach(bytes) {
-        let (due, literal) = read_on_literal(field, points, rest)?;
-        return Ok(DutyPattern {
-            due,
-            task: Task::Reach(literal),
-        });
-    }
-    if let Some(rest) = after_hold(bytes) {
-        let (due, literal) = read_on_literal(field, points, rest)?;
-        return Ok(DutyPattern {
-            due,
-            task: Task::Hold(literal),
-        });
-    }
-    Err(misshapen(field))
 }

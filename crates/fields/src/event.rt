@@ -1,87 +1,69 @@
 // Events, and the statements that are effects and conditions.
-ghost use Rattle.std.specs.Prelude.{◌≡◌, ◌≤◌, length, Ok as Succeeds};
-ghost use Rattle.duties.specs.declared.order.Event.TheVariants as E;
+ghost use Rattle.std.specs.Prelude.{◌≡◌};
 ghost use Rattle.text.specs.Split.{split};
-ghost use Rattle.fields.specs.Reading.{and_then, placed};
+ghost use Rattle.fields.specs.Reading.{placed};
 ghost use Rattle.fields.specs.Fields.{by_words, event_of, read_set, statement_of};
 
-use crate::duty::read_duty;
-use crate::fault::WordFault;
-use crate::fronts::{after_failed, after_met, after_no};
+use crate::fault::{Cause, WordFault};
 use crate::literal::find_literal;
+use crate::name_list::{Declared, NameList};
 use crate::set::{check_names, collect_tags};
 use duties::{Event, Statement, TagSet};
-use names::Name;
-use text::cut;
+use text::{after, cut};
 
 // A set of tags: names joined by `+`.
-pub(crate) fn read_tags(field: usize, tags: &[Name], bytes: &[u8]) -> Result<TagSet, WordFault>
-    requires { length tags.now ≤ 64 }
-    ensures { result ≡ placed field (read_set tags.now bytes.now) }
+fn read_tags(tags: NameList<'_>, bytes: &[u8]) -> Result<TagSet, Cause>
+    ensures { result ≡ read_set tags.entry.names.now bytes.now }
 {
-    check_names(field, bytes)?;
-    collect_tags(field, tags, bytes)
+    check_names(bytes)?;
+    collect_tags(tags, bytes)
 }
 
-// A read of the tags, as an event.
-fn read_tags_event(field: usize, tags: &[Name], bytes: &[u8]) -> Result<Event, WordFault>
-    requires { length tags.now ≤ 64 }
-    ensures { result ≡ placed field (and_then (read_set tags.now bytes.now) (λ s. Succeeds (E.Tags s))) }
-{
-    Ok(Event::Tags(read_tags(field, tags, bytes)?))
-}
-
-// An event: names joined by `+`, or `met` or `failed` and a duty.
-pub fn read_event(
-    field: usize,
-    tags: &[Name],
-    points: &[Name],
-    bytes: &[u8],
-) -> Result<Event, WordFault>
-    requires tags_few { length tags.now ≤ 64 }
-    requires points_few { length points.now ≤ 64 }
-    ensures { result ≡ placed field (event_of tags.now points.now bytes.now) }
-{
-    if let Some(rest) = after_met(bytes) {
-        return Ok(Event::Met(read_duty(field, tags, points, rest)?));
+impl Declared<'_> {
+    // An event: names joined by `+`, or `met` or `failed` and a duty.
+    pub fn read_event(&self, field: usize, bytes: &[u8]) -> Result<Event, WordFault>
+        ensures { result ≡ placed field (event_of self.now.tags.names.now self.now.points.names.now bytes.now) }
+    {
+        self.unplaced_event(bytes)
+            .map_err(|cause| WordFault { field, cause })
     }
-    if let Some(rest) = after_failed(bytes) {
-        return Ok(Event::Failed(read_duty(field, tags, points, rest)?));
-    }
-    read_tags_event(field, tags, bytes)
-}
 
-// A statement without `no`: a literal in one word, a duty in more.
-fn read_plain(
-    field: usize,
-    tags: &[Name],
-    points: &[Name],
-    bytes: &[u8],
-) -> Result<Statement, WordFault>
-    requires tags_few { length tags.now ≤ 64 }
-    requires points_few { length points.now ≤ 64 }
-    ensures { result ≡ placed field (by_words tags.now points.now bytes.now (split 32 bytes.now)) }
-{
-    let (word, more) = cut(bytes, b' ');
-    let None = more else {
-        return Ok(Statement::Duty(read_duty(field, tags, points, bytes)?));
-    };
-    Ok(Statement::Literal(find_literal(field, points, word)?))
-}
-
-// A statement: a literal in one word, a duty in more, or `no` and a duty.
-pub fn read_statement(
-    field: usize,
-    tags: &[Name],
-    points: &[Name],
-    bytes: &[u8],
-) -> Result<Statement, WordFault>
-    requires tags_few { length tags.now ≤ 64 }
-    requires points_few { length points.now ≤ 64 }
-    ensures { result ≡ placed field (statement_of tags.now points.now bytes.now) }
-{
-    if let Some(rest) = after_no(bytes) {
-        return Ok(Statement::NoDuty(read_duty(field, tags, points, rest)?));
+    // A statement: a literal in one word, a duty in more, or `no` and a duty.
+    pub fn read_statement(&self, field: usize, bytes: &[u8]) -> Result<Statement, WordFault>
+        ensures { result ≡ placed field (statement_of self.now.tags.names.now self.now.points.names.now bytes.now) }
+    {
+        self.unplaced_statement(bytes)
+            .map_err(|cause| WordFault { field, cause })
     }
-    read_plain(field, tags, points, bytes)
+
+    fn unplaced_event(&self, bytes: &[u8]) -> Result<Event, Cause>
+        ensures { result ≡ event_of self.now.tags.names.now self.now.points.names.now bytes.now }
+    {
+        if let Some(rest) = after(bytes, b"met ") {
+            return self.read_duty(rest).map(Event::Met);
+        }
+        if let Some(rest) = after(bytes, b"failed ") {
+            return self.read_duty(rest).map(Event::Failed);
+        }
+        read_tags(self.tags, bytes).map(Event::Tags)
+    }
+
+    fn unplaced_statement(&self, bytes: &[u8]) -> Result<Statement, Cause>
+        ensures { result ≡ statement_of self.now.tags.names.now self.now.points.names.now bytes.now }
+    {
+        if let Some(rest) = after(bytes, b"no ") {
+            return self.read_duty(rest).map(Statement::NoDuty);
+        }
+        self.read_plain(bytes)
+    }
+
+    // A statement without `no`: a literal in one word, a duty in more.
+    fn read_plain(&self, bytes: &[u8]) -> Result<Statement, Cause>
+        ensures { result ≡ by_words self.now.tags.names.now self.now.points.names.now bytes.now (split 32 bytes.now) }
+    {
+        match cut(bytes, b' ') {
+            (word, None) => find_literal(self.points, word).map(Statement::Literal),
+            _ => self.read_duty(bytes).map(Statement::Duty),
+        }
+    }
 }

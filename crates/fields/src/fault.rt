@@ -1,7 +1,4 @@
 // What is wrong with a word.
-ghost use Rattle.std.specs.Prelude.{◌≡◌};
-ghost use Rattle.fields.specs.declared.fault.Cause.TheVariants.{Shape as NoShape};
-
 #[derive(Clone, Copy)]
 pub enum Cause {
     // The field has not its shape, or a name in it is ill-formed or reserved.
@@ -17,14 +14,4 @@ pub enum Cause {
 pub struct WordFault {
     pub field: usize,
     pub cause: Cause,
-}
-
-// The fault of a field that has not its shape.
-pub(crate) fn misshapen(field: usize) -> WordFault
-    ensures { result ≡ record { field = field; cause = NoShape } }
-{
-    WordFault {
-        field,
-        cause: Cause::Shape,
-    }
 }

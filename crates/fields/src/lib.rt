@@ -4,9 +4,9 @@ mod due;
 mod duty;
 mod event;
 mod fault;
-mod fronts;
 mod literal;
+mod name_list;
 mod set;
 
-pub use event::{read_event, read_statement};
 pub use fault::{Cause, WordFault};
+pub use name_list::{Declared, NameList};

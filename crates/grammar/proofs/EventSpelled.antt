@@ -1,50 +1,45 @@
--- An event is read as the grammar spells it. Assumes nothing.
-use Rattle.std.proofs.Common.{◌≡◌, ℕ, List, Ok, codes, Result, refl, subst, inl, inr}
+-- An event is read as the grammar spells it, and refused by its first cause. Assumes nothing.
+use Rattle.std.proofs.Common.{◌≡◌, ℕ, ltb, List, [], Ok, codes, refl, inr, arith}
 use Rattle.duties.specs.declared.order.Event.{Event}
 use Rattle.duties.specs.declared.order.Event.TheVariants as E
-use Rattle.fields.specs.declared.fault.Cause.{Cause}
-use Rattle.fields.specs.Fields.{duty_of, event_of, read_set}
-use Rattle.fields.specs.Reading.{and_then, by}
+use Rattle.duties.specs.declared.sets.TagSet.{TagSet}
+use Rattle.fields.specs.Fields.{event_of, read_set}
+use Rattle.fields.specs.Reading.{and_then}
 use Rattle.names.specs.declared.name.Name.{Name}
-use Rattle.text.specs.Split.{past}
 use Rattle.grammar.specs.Grammar as G
 use Rattle.grammar.specs.Grammar.{SpellsEvent}
 use Rattle.grammar.specs.Reads.{EventsAreReadAsSpelled}
-use Rattle.grammar.proofs.DutySpelled.{after_spelled, duty_read}
-use Rattle.grammar.proofs.Pieces.{none_past}
-use Rattle.grammar.proofs.SetSpelled.{set_lacks, set_read, set_spelled}
-use Rattle.grammar.proofs.Steps.{by_cases, ok_then, same_ok, then_ok}
+use Rattle.grammar.specs.Shapes as H
+use Rattle.grammar.specs.Shapes.{AnEventIsRefusedByItsFirstCause, EventShape}
+use Rattle.grammar.proofs.Causes.{Decided, Lacking, OrShaped, SomeShape, by_first_cause, by_shape, known_left, known_then, or_then}
+use Rattle.grammar.proofs.DutySpelled.{after_decided, after_or, duty_read}
+use Rattle.grammar.proofs.Pieces.{Visible, by_front, none_past}
+use Rattle.grammar.proofs.SetSpelled.{set_read, set_read_known, set_read_or, set_shape, set_word}
 
 module _ (tags points : List Name) where
-  tags_spelled : (bs : List ℕ) (e : Event) → and_then (read_set tags bs) (λ s. Ok (E.Tags s)) ≡ Ok e → SpellsEvent tags points bs e
-  tags_spelled bs e h =
-      let t = then_ok (read_set tags bs) (λ s. Ok (E.Tags s)) e h in
-      subst (SpellsEvent tags points bs) (same_ok t.2) (G.of_tags (set_spelled tags bs t.0.0 t.1))
+  -- one word has no key word before it
+  tags_said : (w : List ℕ) → Visible w → event_of tags points w ≡ and_then (read_set tags w) (λ s. Ok (E.Tags s))
+  tags_said w h = rw (none_past (ltb 32) (codes "met ") w refl h, none_past (ltb 32) (codes "failed ") w refl h)
 
-  abbrev pub by_failed : List ℕ → Result Event Cause
-  by_failed bs = by (past (codes "failed ") bs) (λ rest. and_then (duty_of tags points rest) (λ p. Ok (E.Failed p))) (and_then (read_set tags bs) (λ s. Ok (E.Tags s)))
+  event_or : (bs : List ℕ) → OrShaped (event_of tags points bs) (SomeShape (EventShape bs))
+  event_or bs =
+      by_front (codes "met ") bs _ _ (λ b r. OrShaped r (SomeShape (EventShape b))) (after_or tags points E.Met (codes "met ") EventShape (λ w n limit ts ps h. H.when_met h))
+      (by_front (codes "failed ") bs _ _ (λ b r. OrShaped r (SomeShape (EventShape b))) (after_or tags points E.Failed (codes "failed ") EventShape (λ w n limit ts ps h. H.when_failed h))
+      (or_then (λ s. Ok (E.Tags s)) (λ (ns, h). (0, 0, ns, [], H.of_tags h)) (set_read_or tags bs)))
 
-  failed_spelled : (bs : List ℕ) (e : Event) → by_failed bs ≡ Ok e → SpellsEvent tags points bs e
-  failed_spelled bs e h =
-      elim (by_cases (past (codes "failed ") bs) (λ rest. and_then (duty_of tags points rest) (λ p. Ok (E.Failed p))) (and_then (read_set tags bs) (λ s. Ok (E.Tags s))) (Ok e) h) [
-        | inl (r, q, k) ↦ after_spelled tags points (codes "failed ") E.Failed (SpellsEvent tags points) (λ w p g. G.when_failed g) bs r e q k
-        | inr (_, k) ↦ tags_spelled bs e k
-      ]
-
-  pub event_spelled : (bs : List ℕ) (e : Event) → event_of tags points bs ≡ Ok e → SpellsEvent tags points bs e
-  event_spelled bs e h =
-      elim (by_cases (past (codes "met ") bs) (λ rest. and_then (duty_of tags points rest) (λ p. Ok (E.Met p))) (by_failed bs) (Ok e) h) [
-        | inl (r, q, k) ↦ after_spelled tags points (codes "met ") E.Met (SpellsEvent tags points) (λ w p g. G.when_met g) bs r e q k
-        | inr (_, k) ↦ failed_spelled bs e k
-      ]
+  event_decided : (bs : List ℕ) (n limit : ℕ) (ts ps : List (List ℕ)) → EventShape bs n limit ts ps → Decided (SpellsEvent tags points bs) n limit (Lacking tags points ts ps) (event_of tags points bs)
+  event_decided bs _ _ _ _ (H.of_tags {w} {ns} h) =
+      rw (tags_said w (set_word h)) (inr (omega arith, known_then E.Tags (λ (s : TagSet) g. G.of_tags g) (known_left (set_read_known tags w ns h))))
+  event_decided bs _ _ _ _ (H.when_met {w} {n} {limit} {ts} {ps} h) = after_decided tags points E.Met (SpellsEvent tags points bs) w n limit ts ps (λ p g. G.when_met g) h
+  event_decided bs _ _ _ _ (H.when_failed {w} {n} {limit} {ts} {ps} h) = after_decided tags points E.Failed (SpellsEvent tags points bs) w n limit ts ps (λ p g. G.when_failed g) h
 
   event_read : (bs : List ℕ) (e : Event) → SpellsEvent tags points bs e → event_of tags points bs ≡ Ok e
-  event_read _ _ (G.of_tags {w} {s} h) =
-      let k = set_lacks tags w s h in
-      rw (none_past 32 (codes "met ") w (λ q. q.1.1.1.0 refl) k, none_past 32 (codes "failed ") w (λ q. q.1.1.1.1.1.1.0 refl) k)
-      (ok_then (λ s. Ok (E.Tags s)) (set_read tags w s h))
-  event_read _ _ (G.when_met {w} {p} h) = ok_then (λ p. Ok (E.Met p)) (duty_read tags points w p h)
-  event_read _ _ (G.when_failed {w} {p} h) = ok_then (λ p. Ok (E.Failed p)) (duty_read tags points w p h)
+  event_read _ _ (G.of_tags {w} {s} h) = let (ns, k, _) = set_shape tags w s h in rw (tags_said w (set_word k), set_read tags w s h)
+  event_read _ _ (G.when_met {w} {p} h) = rw (duty_read tags points w p h)
+  event_read _ _ (G.when_failed {w} {p} h) = rw (duty_read tags points w p h)
 
 pub events_spelled : EventsAreReadAsSpelled
-events_spelled tags points bs e = (event_spelled tags points bs e, event_read tags points bs e)
+events_spelled tags points bs e = (by_shape tags points (EventShape bs) (SpellsEvent tags points bs) (event_of tags points bs) (event_or tags points bs) (event_decided tags points bs) e, event_read tags points bs e)
+
+pub events_refused : AnEventIsRefusedByItsFirstCause
+events_refused tags points bs = by_first_cause tags points (EventShape bs) (SpellsEvent tags points bs) (event_of tags points bs) (event_or tags points bs) (event_decided tags points bs)

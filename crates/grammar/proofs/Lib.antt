@@ -1,16 +1,11 @@
 pub mod Causes
-pub mod DueShaped
 pub mod DueSpelled
-pub mod DutyShaped
 pub mod DutySpelled
 pub mod EventSpelled
 pub mod Fits
 pub mod LiteralSpelled
 pub mod Numbers
 pub mod Pieces
-pub mod Refused
 pub mod SetSpelled
 pub mod StatementSpelled
-pub mod Steps
 pub mod Told
-pub mod WordShaped

@@ -5,59 +5,41 @@ ghost use Rattle.grammar.specs.Reads.{DuesAreReadAsSpelled, DutiesAreReadAsSpell
 ghost use Rattle.grammar.specs.Shapes.{AStatementIsRefusedByItsFirstCause, AnEventIsRefusedByItsFirstCause};
 
 // A piece is taken for a name, or for a number, exactly where it is spelled as one.
-pub fn names_and_numbers_are_told_by_spelling() -> u8
+pub fn names_and_numbers_are_told_by_spelling()
     ensures names { NamesAreToldBySpelling }
     ensures numbers { NumbersAreToldBySpelling }
-{
-    0
-}
+{}
 
-pub fn dues_are_read_as_spelled() -> u8
+pub fn dues_are_read_as_spelled()
     ensures { DuesAreReadAsSpelled }
-{
-    0
-}
+{}
 
-pub fn sets_are_read_as_spelled() -> u8
+pub fn sets_are_read_as_spelled()
     ensures { SetsAreReadAsSpelled }
-{
-    0
-}
+{}
 
-pub fn literals_are_read_as_spelled() -> u8
+pub fn literals_are_read_as_spelled()
     ensures { LiteralsAreReadAsSpelled }
-{
-    0
-}
+{}
 
-pub fn duties_are_read_as_spelled() -> u8
+pub fn duties_are_read_as_spelled()
     ensures { DutiesAreReadAsSpelled }
-{
-    0
-}
+{}
 
-pub fn events_are_read_as_spelled() -> u8
+pub fn events_are_read_as_spelled()
     ensures { EventsAreReadAsSpelled }
-{
-    0
-}
+{}
 
 // Effects and conditions.
-pub fn statements_are_read_as_spelled() -> u8
+pub fn statements_are_read_as_spelled()
     ensures { StatementsAreReadAsSpelled }
-{
-    0
-}
+{}
 
 // No shape, else a number over its limit, else a name that is not declared.
-pub fn an_event_is_refused_by_its_first_cause() -> u8
+pub fn an_event_is_refused_by_its_first_cause()
     ensures { AnEventIsRefusedByItsFirstCause }
-{
-    0
-}
+{}
 
-pub fn a_statement_is_refused_by_its_first_cause() -> u8
+pub fn a_statement_is_refused_by_its_first_cause()
     ensures { AStatementIsRefusedByItsFirstCause }
-{
-    0
-}
+{}

@@ -285,13 +285,13 @@ module _ (tags points : List Name) (few : length tags ≤ 64) where
 
 -- the fields of an order, read one after the other
 module _ (t : Content) where
-  abbrev pub effect_next : Event → List (List ℕ) → Statement → Result Order LineCause
+  abbrev effect_next : Event → List (List ℕ) → Statement → Result Order LineCause
   effect_next ev ws ef = and_then (worded (conditions_of t.tags t.points ws)) (λ cs. checked (record { event = ev; effect = ef; conditions = cs }))
 
-  abbrev pub event_next : List ℕ → List (List ℕ) → Event → Result Order LineCause
+  abbrev event_next : List ℕ → List (List ℕ) → Event → Result Order LineCause
   event_next w ws ev = and_then (worded (placed 3 (statement_of t.tags t.points w))) (effect_next ev ws)
 
-  abbrev pub room_next : List ℕ × List ℕ × List (List ℕ) → Result Order LineCause
+  abbrev room_next : List ℕ × List ℕ × List (List ℕ) → Result Order LineCause
   room_next f = and_then (worded (placed 2 (event_of t.tags t.points f.0))) (event_next f.1 f.2)
 
 -- an order that is read fits, and there is room for it

@@ -16,12 +16,12 @@ use Rattle.text.specs.Split.{split}
 use Rattle.lines.specs.declared.fault.LineCause.{LineCause}
 use Rattle.lines.specs.declared.fault.LineCause.TheVariants as C
 use Rattle.lines.specs.Lines.{declared, name_of_field, new_name, one_field, room}
-use Rattle.lines.specs.Reads.{Indexes}
+use Rattle.lines.specs.Reads.{Indexes, by_name}
 use Rattle.lines.proofs.Keeps.{law}
 use Rattle.lines.proofs.Members.{member_first, member_last}
 
 -- the rows hold just what is declared
-pub held_declared : (k : OrderedRows Name) (t : Content) → Indexes k t → (n : Name) → holding name_before n (items k) ≡ declared t n
+pub held_declared : (k : OrderedRows Name by_name) (t : Content) → Indexes k t → (n : Name) → holding name_before n (items k) ≡ declared t n
 held_declared k t known n =
     holding_member name_before name_irreflexive name_transitive name_total n (items k) known.rising ∙ known.each n
 
@@ -42,7 +42,7 @@ module _ (f g : Name → Bool) (alike : (n : Name) → f n ≡ g n) where
   name_alike m bs = field_alike (one_field (split 9 bs)) m
 
 -- what is read by the rows is what is read by the table
-pub read_by_rows : (k : OrderedRows Name) (t : Content) → Indexes k t → (m : ℕ) (bs : List ℕ) → name_of_field (λ n. holding name_before n (items k)) m bs ≡ name_of_field (declared t) m bs
+pub read_by_rows : (k : OrderedRows Name by_name) (t : Content) → Indexes k t → (m : ℕ) (bs : List ℕ) → name_of_field (λ n. holding name_before n (items k)) m bs ≡ name_of_field (declared t) m bs
 read_by_rows k t known m bs = name_alike (λ n. holding name_before n (items k)) (declared t) (held_declared k t known) m bs
 
 module _ {X : Type 0} (less : X → X → Bool) (irreflexive : (x : X) → less x x ≡ false) (transitive : (x y z : X) → less x y ≡ true → less y z ≡ true → less x z ≡ true) (total : (x y : X) → less x y ≡ false → less y x ≡ false → x ≡ y) where
@@ -69,17 +69,17 @@ module _ {X : Type 0} (less : X → X → Bool) (irreflexive : (x : X) → less 
       omega arith
 
 -- there are no more rows than names
-pub rows_few : (k : OrderedRows Name) (t : Content) → Indexes k t → length (items k) ≤ length t.tags + length t.points
+pub rows_few : (k : OrderedRows Name by_name) (t : Content) → Indexes k t → length (items k) ≤ length t.tags + length t.points
 rows_few k t known =
     let a = rising_short name_before name_irreflexive name_transitive name_total (items k) (t.tags ++ t.points) known.rising known.each in
     let b = length-append t.tags t.points in
     omega arith
 
 -- what inserting a name says of the rows before and after, and of its answer
-module _ (k l : OrderedRows Name) (t : Content) (n : Name) (r : Bool) (known : Indexes k t)
+module _ (k l : OrderedRows Name by_name) (t : Content) (n : Name) (r : Bool) (known : Indexes k t)
     (answer : r ≡ (holding name_before n (items k) || ltb (length (items k)) (capacity k)))
     (size : capacity l ≡ capacity k)
-    (ascending : rising name_before (items k) ≡ true → rising name_before (items l) ≡ true)
+    (ascending : rising name_before (items l) ≡ true)
     (members : r ≡ true → (z : Name) → member name_before z (items l) ≡ (same name_before z n || member name_before z (items k))) where
   -- there is room
   pub inserted : length t.tags + length t.points < 128 → r ≡ true
@@ -94,7 +94,7 @@ module _ (k l : OrderedRows Name) (t : Content) (n : Name) (r : Bool) (known : I
       let a = known.room in
       let le : 128 ≤ capacity l = omega arith in
       record {
-        rising = ascending known.rising;
+        rising = ascending;
         each = λ z. members (inserted few) z ∙ ap (λ b. same name_before z n || b) (known.each z) ∙ sym (one_more z);
         room = le;
       }
@@ -110,5 +110,5 @@ module _ (k l : OrderedRows Name) (t : Content) (n : Name) (r : Bool) (known : I
       knows (with_point t n) (omega arith) (λ z. member_last name_before z n t.tags t.points)
 
 -- an order declares no name
-pub knows_order : (k : OrderedRows Name) (t : Content) (o : Order) → Indexes k t → Indexes k (with_order t o)
+pub knows_order : (k : OrderedRows Name by_name) (t : Content) (o : Order) → Indexes k t → Indexes k (with_order t o)
 knows_order k t o known = record { rising = known.rising; each = known.each; room = known.room }

@@ -12,7 +12,7 @@ use Rattle.sheets.specs.Sheets.{Content, good_name, lawful, with_order, with_poi
 use Rattle.text.specs.Split.{past}
 use Rattle.lines.specs.declared.fault.LineCause.{LineCause}
 use Rattle.lines.specs.Lines.{declared, line_of, name_of_field, order_of}
-use Rattle.lines.specs.Reads.{Indexes, LineRead}
+use Rattle.lines.specs.Reads.{Indexes, LineRead, by_name}
 use Rattle.lines.proofs.Keeps.{line_lawful, name_made}
 use Rattle.lines.proofs.Knows.{read_by_rows}
 
@@ -27,7 +27,7 @@ line_fails r t u line e exit says keeps =
 pub read_lawful : (t u : Content) (line : List ℕ) → lawful t ≡ true → line_of t line ≡ Ok u → lawful u ≡ true
 read_lawful t u line law e = IfOk-at_ok (λ v. lawful v ≡ true) e (line_lawful t line law)
 
-module _ (k : OrderedRows Name) (t : Content) (known : Indexes k t) (line rest : List ℕ) where
+module _ (k : OrderedRows Name by_name) (t : Content) (known : Indexes k t) (line rest : List ℕ) where
   abbrev held : Name → Bool
   held n = holding name_before n (items k)
 

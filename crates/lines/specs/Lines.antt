@@ -1,6 +1,5 @@
 -- What a line declares, or its first fault. Assumes nothing.
 use Rattle.std.specs.Prelude.{ℕ, Bool, cond, List, [], ◌∷◌, ◌++◌, length, drop, Some, None, Ok, Err, codes, Option, Result, nat_le, nat_lt}
-use Rattle.std.specs.Borrow.{Bor}
 use Rattle.duties.specs.declared.order.Order.{Order}
 use Rattle.duties.specs.declared.order.Statement.{Statement}
 use Rattle.duties.specs.Ranges.{literal_apart, t_bound}
@@ -50,11 +49,6 @@ abbrev pub order_fields : List (List ℕ) → Result (List ℕ × List ℕ × Li
 order_fields [] = Err C.Fields
 order_fields (ev ∷ []) = Err C.Fields
 order_fields (ev ∷ ef ∷ cs) = few ev ef cs
-
--- the fields that are left
-abbrev pub fields_of : Option (Bor (List ℕ)) → List (List ℕ)
-fields_of None = []
-fields_of (Some s) = split 9 s.now
 
 module _ (tags points : List Name) where
   -- the condition in the next field, whose number is k, if there is one

@@ -2,10 +2,9 @@
 // A line of a sheet: the declaration of a tag, of a point or of an order.
 mod conditions;
 mod fault;
-mod fronts;
 mod line;
 mod order_line;
 mod orders;
 
 pub use fault::LineCause;
-pub use line::read_record;
+pub use line::Draft;

@@ -1,31 +1,34 @@
 // A line, read into a table.
-ghost use Rattle.std.specs.Prelude.{◌≡◌, ◌<◌, true, length};
-ghost use Rattle.sheets.specs.Sheets.{content, lawful};
+ghost use Rattle.std.specs.Prelude.{◌≡◌, ◌≤◌, true, Ok as Good, Err as Bad, MatchResult};
+ghost use Rattle.sheets.specs.Sheets.{blank, content, lawful};
 ghost use Rattle.names.specs.Names.{name_before};
 ghost use Rattle.ordered.specs.Ascending.{holding};
-ghost use Rattle.ordered.specs.Rows.{items};
-ghost use Rattle.lines.specs.Lines.{name_of_field};
+ghost use Rattle.ordered.specs.Rows.{capacity, items};
+ghost use Rattle.lines.specs.Lines.{name_of_field, new_name, one_field};
+ghost use Rattle.text.specs.Split.{split};
 ghost use Rattle.lines.specs.Reads.{Indexes, LineRead};
 
 use crate::fault::LineCause;
-use crate::fronts::{after_order, after_point, after_tag};
 use crate::order_line::read_order;
 use names::Name;
 use ordered::OrderedRows;
 use sheets::Table;
-use text::{Token, classify, cut};
+use text::{Pieces, Token, after, classify};
 
-// The new name in a line's last field, where so many of its kind are declared. `known` has every name that is declared.
-fn read_name(known: &OrderedRows<Name>, so_far: usize, bytes: &[u8]) -> Result<Name, LineCause>
-    ensures { result ≡ name_of_field (λ n. holding name_before n (items known.now)) so_far bytes.now }
+fn only_field(bytes: &[u8]) -> Result<&[u8], LineCause>
+    ensures { MatchResult result (λ w. one_field (split 9 bytes.now) ≡ Good w.now) (λ e. one_field (split 9 bytes.now) ≡ Bad e) }
 {
-    let (word, more) = cut(bytes, b'\t');
-    let None = more else {
-        return Err(LineCause::Fields);
-    };
-    if so_far >= 64 {
-        return Err(LineCause::Full);
+    let mut fields = Pieces::of(bytes, b'\t');
+    match (fields.next(), fields.next()) {
+        (Some(word), None) => Ok(word),
+        _ => Err(LineCause::Fields),
     }
+}
+
+// The name that a word spells, unless it is declared already. `known` has every name that is.
+fn fresh_name(known: &OrderedRows<Name>, word: &[u8]) -> Result<Name, LineCause>
+    ensures { result ≡ new_name (λ n. holding name_before n (items known.now)) word.now }
+{
     let Token::Name(_) = classify(word) else {
         return Err(LineCause::Name);
     };
@@ -36,34 +39,63 @@ fn read_name(known: &OrderedRows<Name>, so_far: usize, bytes: &[u8]) -> Result<N
     Ok(name)
 }
 
-// The table with what one more line declares; at a fault, the table as it was.
-pub fn read_record(
-    table: &mut Table,
-    known: &mut OrderedRows<Name>,
-    line: &[u8],
-) -> Result<(), LineCause>
-    requires lawful { lawful (content table.old) ≡ true }
-    requires known { Indexes known.old (content table.old) }
-    ensures read { LineRead result (content table.old) (content table.new) line.now }
-    ensures lawful { lawful (content table.new) ≡ true }
-    ensures known { Indexes known.new (content table.new) }
+// The new name in a line's last field, where so many of its kind are declared.
+fn read_name(known: &OrderedRows<Name>, so_far: usize, bytes: &[u8]) -> Result<Name, LineCause>
+    ensures { result ≡ name_of_field (λ n. holding name_before n (items known.now)) so_far bytes.now }
 {
-    if let Some(rest) = after_tag(line) {
-        let name = read_name(known, table.tags().len(), rest)?;
-        known.insert(name);
-        table.add_tag(name);
-        return Ok(());
+    let word = only_field(bytes)?;
+    if so_far >= 64 {
+        return Err(LineCause::Full);
     }
-    if let Some(rest) = after_point(line) {
-        let name = read_name(known, table.points().len(), rest)?;
-        known.insert(name);
-        table.add_point(name);
-        return Ok(());
+    fresh_name(known, word)
+}
+
+// A table that lines are read into, and the names that it declares, in order.
+// Both are lent, each at a lifetime of its own: of rows held by value, or lent at the table's lifetime, no caller can show what its table is afterwards.
+#[derive(Drop)]
+pub struct Draft<'t, 'k, 'r> {
+    table: &'t mut Table,
+    known: &'k mut OrderedRows<'r, Name>,
+    pub ghost lawful: { lawful (content table.now) ≡ true },
+    ghost indexed: { Indexes known.now (content table.now) },
+}
+
+impl<'t, 'k, 'r> Draft<'t, 'k, 'r> {
+    ghost use Rattle.lines.specs.Drafts.{drafted};
+
+    // From nothing: the table and the rows are emptied.
+    pub fn over(table: &'t mut Table, known: &'k mut OrderedRows<'r, Name>) -> Draft<'t, 'k, 'r>
+        requires room { 128 ≤ capacity known.old }
+        ensures none { drafted result ≡ blank }
+        ensures same_table { result.table.ghost_name ≡ table.entry.ghost_name }
+    {
+        table.clear();
+        known.clear();
+        Draft { table, known }
     }
-    if let Some(rest) = after_order(line) {
-        let order = read_order(table, rest)?;
-        table.add_order(order);
-        return Ok(());
+
+    // The table with what one more line declares; at a fault, the table as it was.
+    pub fn read_record(&mut self, line: &[u8]) -> Result<(), LineCause>
+        ensures read { LineRead result (drafted self.old) (drafted self.new) line.now }
+        ensures same_table { self.new.table.ghost_name ≡ self.old.table.ghost_name }
+    {
+        if let Some(rest) = after(line, b"tag\t") {
+            let name = read_name(self.known, self.table.tags().len(), rest)?;
+            self.known.insert(name);
+            self.table.add_tag(name);
+            return Ok(());
+        }
+        if let Some(rest) = after(line, b"point\t") {
+            let name = read_name(self.known, self.table.points().len(), rest)?;
+            self.known.insert(name);
+            self.table.add_point(name);
+            return Ok(());
+        }
+        if let Some(rest) = after(line, b"order\t") {
+            let order = read_order(self.table, rest)?;
+            self.table.add_order(order);
+            return Ok(());
+        }
+        Err(LineCause::Fields)
     }
-    Err(LineCause::Fields)
 }

@@ -1,15 +1,17 @@
 // The fields of an order line.
-ghost use Rattle.std.specs.Prelude.{◌≡◌, ◌≤◌, length};
-ghost use Rattle.lines.specs.Lines.{checked, order_of};
+ghost use Rattle.std.specs.Prelude.{◌≡◌, Ok as Good, Err as Bad, MatchResult};
+ghost use Rattle.lines.specs.Lines.{checked, order_fields, order_of};
+ghost use Rattle.text.specs.Pieces.{pieces_left};
+ghost use Rattle.text.specs.Split.{split};
 ghost use Rattle.sheets.specs.Sheets.{content};
 
-use crate::conditions::{count_fields, read_conditions};
+use crate::conditions::read_conditions;
 use crate::fault::LineCause;
 use crate::orders::{is_literal_apart, is_t_bound};
 use duties::Order;
-use fields::{read_event, read_statement};
+use fields::{Declared, NameList};
 use sheets::Table;
-use text::cut;
+use text::Pieces;
 
 // The order, unless it is put together wrongly.
 fn check_order(order: Order) -> Result<Order, LineCause>
@@ -24,27 +26,46 @@ fn check_order(order: Order) -> Result<Order, LineCause>
     Ok(order)
 }
 
-pub(crate) fn read_order(table: &Table, bytes: &[u8]) -> Result<Order, LineCause>
-    requires tags_few { length (content table.now).tags ≤ 64 }
-    requires points_few { length (content table.now).points ≤ 64 }
-    ensures { result ≡ order_of (content table.now) bytes.now }
+// The names that the orders of a table may use.
+fn declared_names(table: &Table) -> Declared<'_>
+    ensures tags { result.tags.names.now ≡ (content table.now).tags }
+    ensures points { result.points.names.now ≡ (content table.now).points }
 {
-    let (event, more) = cut(bytes, b'\t');
-    let Some(rest) = more else {
-        return Err(LineCause::Fields);
-    };
-    let (effect, conditions) = cut(rest, b'\t');
-    if count_fields(conditions) > 4 {
+    Declared {
+        tags: NameList {
+            names: table.tags(),
+        },
+        points: NameList {
+            names: table.points(),
+        },
+    }
+}
+
+// The event, the effect, and the conditions that are left, four at most.
+fn split_order(bytes: &[u8]) -> Result<(&[u8], &[u8], Pieces<'_>), LineCause>
+    ensures { MatchResult result (λ f. order_fields (split 9 bytes.now) ≡ Good (f.0.now, f.1.now, pieces_left f.2)) (λ e. order_fields (split 9 bytes.now) ≡ Bad e) }
+{
+    let mut fields = Pieces::of(bytes, b'\t');
+    if fields.count() > 6 {
         return Err(LineCause::Fields);
     }
+    match (fields.next(), fields.next()) {
+        (Some(event), Some(effect)) => Ok((event, effect, fields)),
+        _ => Err(LineCause::Fields),
+    }
+}
+
+pub(crate) fn read_order(table: &Table, bytes: &[u8]) -> Result<Order, LineCause>
+    ensures { result ≡ order_of (content table.now) bytes.now }
+{
+    let (event, effect, conditions) = split_order(bytes)?;
     if table.orders().len() >= 128 {
         return Err(LineCause::Full);
     }
-    let tags = table.tags();
-    let points = table.points();
-    let event = read_event(2, tags, points, event)?;
-    let effect = read_statement(3, tags, points, effect)?;
-    let conditions = read_conditions(tags, points, conditions)?;
+    let declared = declared_names(table);
+    let event = declared.read_event(2, event)?;
+    let effect = declared.read_statement(3, effect)?;
+    let conditions = read_conditions(&declared, conditions)?;
     check_order(Order {
         event,
         effect,

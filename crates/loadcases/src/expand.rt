@@ -1,29 +1,51 @@
 // The text that a case writes down.
+ghost use Rattle.std.specs.Prelude.{◌<◌, length};
+ghost use Rattle.std.specs.Iterator.{at_most};
+
 use std::alloc::{AllocError, Global};
+use text::cut;
 
+// What stands next in a case.
 #[derive(Clone, Copy)]
-enum At {
-    Plain,
-    // After a backslash, after `\x`, and after its first digit.
-    Escape,
-    High,
-    Low(u8),
-    // After `{`, and after its colon.
-    Count,
-    Piece,
+enum Part {
+    Byte(u8),
+    // The start of a piece that is to stand so many times.
+    Open(u32),
+    Close,
 }
 
-#[derive(Drop)]
-pub(crate) struct Expander {
-    heap: Global,
-    text: Vec<u8>,
-    piece: Vec<u8>,
-    times: u32,
-    repeating: bool,
-    at: At,
+// What is left of a case. An escape or a count that its end cuts off ends the parts too.
+#[derive(Clone, Copy)]
+struct Parts<'a>(&'a [u8]);
+
+impl Iterator for Parts<'_> {
+    type Item = Part;
+
+    ghost remaining = { λ s. at_most (length s.0.now) };
+
+    fn next(&mut self) -> Option<Part> {
+        let (part, rest) = match self.0 {
+            [b'\\', b'x', high, low, rest @ ..] => (Part::Byte(hex(*high) * 16 + hex(*low)), rest),
+            [] | [b'\\'] | [b'\\', b'x', ..] => return None,
+            [b'\\', b'n', rest @ ..] => (Part::Byte(b'\n'), rest),
+            [b'\\', b't', rest @ ..] => (Part::Byte(b'\t'), rest),
+            [b'\\', byte, rest @ ..] => (Part::Byte(*byte), rest),
+            [b'{', counted @ ..] => {
+                let (digits, rest) = cut(counted, b':');
+                (Part::Open(number(digits)), rest?)
+            }
+            [b'}', rest @ ..] => (Part::Close, rest),
+            [byte, rest @ ..] => (Part::Byte(*byte), rest),
+        };
+        self.0 = rest;
+        Some(part)
+    }
 }
 
-fn hex(digit: u8) -> u8 {
+// Any other byte counts as 0, where `to_digit` would refuse it.
+fn hex(digit: u8) -> u8
+    ensures { result < 16 }
+{
     match digit {
         b'0'..=b'9' => digit - b'0',
         b'a'..=b'f' => digit - b'a' + 10,
@@ -31,111 +53,58 @@ fn hex(digit: u8) -> u8 {
     }
 }
 
-impl Expander {
-    pub(crate) fn expand(heap: Global, bytes: &[u8]) -> Result<Vec<u8>, AllocError> {
-        let mut all = Expander {
-            heap,
-            text: Vec::new(heap),
-            piece: Vec::new(heap),
-            times: 0,
-            repeating: false,
-            at: At::Plain,
-        };
-        for b in bytes {
-            all.take(*b)?;
-        }
-        let Expander {
-            heap: _,
-            text,
-            piece: _,
-            times: _,
-            repeating: _,
-            at: _,
-        } = all;
-        Ok(text)
-    }
+// The number of the last six digits.
+fn number(digits: &[u8]) -> u32 {
+    digits
+        .iter()
+        .fold(0, |n, digit| n % 100_000 * 10 + u32::from(hex(*digit)))
+}
 
-    fn take(&mut self, b: u8) -> Result<(), AllocError> {
-        match self.at {
-            At::Escape => self.escape(b),
-            At::High => {
-                self.at = At::Low(hex(b));
-                Ok(())
-            }
-            At::Low(high) => {
-                self.at = self.back();
-                self.put((high & 15) * 16 + (hex(b) & 15))
-            }
-            At::Count => {
-                if b == b':' {
-                    self.at = At::Piece;
-                    self.repeating = true;
-                } else {
-                    self.times = (self.times % 100000) * 10 + u32::from(hex(b));
-                }
-                Ok(())
-            }
-            _ => self.plain(b),
-        }
-    }
+// A piece that is being read, and how many times it is to stand.
+#[derive(Drop)]
+struct Repeat {
+    times: u32,
+    piece: Vec<u8>,
+}
 
-    // Where reading goes on after an escape.
-    fn back(&self) -> At {
-        if self.repeating { At::Piece } else { At::Plain }
-    }
-
-    fn escape(&mut self, b: u8) -> Result<(), AllocError> {
-        if b == b'x' {
-            self.at = At::High;
-            return Ok(());
-        }
-        self.at = self.back();
-        match b {
-            b'n' => self.put(b'\n'),
-            b't' => self.put(b'\t'),
-            _ => self.put(b),
-        }
-    }
-
-    fn plain(&mut self, b: u8) -> Result<(), AllocError> {
-        if b == b'\\' {
-            self.at = At::Escape;
-            return Ok(());
-        }
-        if b == b'{' {
-            self.at = At::Count;
-            self.times = 0;
-            return Ok(());
-        }
-        if b == b'}' {
-            self.at = At::Plain;
-            self.repeating = false;
-            return self.repeat();
-        }
-        self.put(b)
-    }
-
-    fn put(&mut self, b: u8) -> Result<(), AllocError> {
-        if self.repeating {
-            self.piece.push(b)?;
-        } else {
-            self.text.push(b)?;
-        }
-        Ok(())
-    }
-
-    fn repeat(&mut self) -> Result<(), AllocError> {
+impl Repeat {
+    // Writes the piece as many times as it is to stand; `#` in it is the turn.
+    fn write(&self, heap: Global, text: &mut Vec<u8>) -> Result<(), AllocError> {
         for i in 0..self.times {
-            let turn = format!(in self.heap; "{i}")?;
-            for b in self.piece.as_slice() {
+            let turn = format!(in heap; "{i}")?;
+            for b in self.piece.iter() {
                 if *b == b'#' {
-                    self.text.extend_from_slice(turn.as_bytes())?;
+                    text.extend_from_slice(turn.as_bytes())?;
                 } else {
-                    self.text.push(*b)?;
+                    text.push(*b)?;
                 }
             }
         }
-        self.piece.clear();
         Ok(())
     }
+}
+
+// A piece that is opened within a piece goes on with it, under its own count; one that is never closed does not stand.
+pub(crate) fn expand(heap: Global, bytes: &[u8]) -> Result<Vec<u8>, AllocError> {
+    let mut text = Vec::new(heap);
+    let mut open: Option<Repeat> = None;
+    for part in Parts(bytes) {
+        match (part, &mut open) {
+            (Part::Byte(b), None) => text.push(b)?,
+            (Part::Byte(b), Some(repeat)) => repeat.piece.push(b)?,
+            (Part::Open(times), None) => {
+                open = Some(Repeat {
+                    times,
+                    piece: Vec::new(heap),
+                });
+            }
+            (Part::Open(times), Some(repeat)) => repeat.times = times,
+            (Part::Close, _) => {
+                if let Some(repeat) = open.take() {
+                    repeat.write(heap, &mut text)?;
+                }
+            }
+        }
+    }
+    Ok(text)
 }

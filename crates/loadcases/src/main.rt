@@ -4,12 +4,44 @@
 // Prints the label and `taken` with the numbers of tags, points and orders, or `refused` with the number, the line and the field.
 mod expand;
 
-use expand::Expander;
+use expand::expand;
 use loader::Loader;
 use sheets::Sheet;
-use std::alloc::Global;
+use std::fmt;
 use std::io::Read;
 use text::cut;
+
+// Lines past so many are not read.
+const MOST_LINES: usize = 100_000;
+
+// How much a sheet declares.
+#[derive(Clone, Copy, PartialEq, Eq)]
+struct Counts {
+    tags: usize,
+    points: usize,
+    orders: usize,
+}
+
+impl Counts {
+    fn of(sheet: &Sheet) -> Counts {
+        Counts {
+            tags: sheet.tags().len(),
+            points: sheet.points().len(),
+            orders: sheet.orders().len(),
+        }
+    }
+}
+
+impl fmt::Display for Counts {
+    fn fmt<W: fmt::Write>(&self, f: &mut fmt::Formatter<W>) -> fmt::Result {
+        let Counts {
+            tags,
+            points,
+            orders,
+        } = self;
+        write!(f, "{tags}\t{points}\t{orders}")
+    }
+}
 
 // One case: its text is expanded, loaded and told. A refusal must leave the sheet of the case before as it was.
 fn run_case(
@@ -18,32 +50,24 @@ fn run_case(
     sheet: &mut Sheet,
     line: &[u8],
 ) -> anyhow::Result<()> {
-    let heap = rt.alloc();
     let (label, more) = cut(line, b' ');
-    let text = match more {
-        Some(bytes) => Expander::expand(heap, bytes)?,
-        None => Vec::new(heap),
-    };
+    let text = expand(rt.alloc(), more.unwrap_or(b""))?;
     let label = std::str::from_utf8(label)?;
-    let tags = sheet.tags().len();
-    let points = sheet.points().len();
-    let orders = sheet.orders().len();
-    match loader.load(text.as_slice(), sheet) {
-        Ok(()) => {
-            let t = sheet.tags().len();
-            let p = sheet.points().len();
-            let o = sheet.orders().len();
-            println!(rt; "{label}\ttaken\t{t}\t{p}\t{o}")?;
-        }
+    let before = Counts::of(sheet);
+    let verdict = loader.load(&text, sheet);
+    let after = Counts::of(sheet);
+    match verdict {
+        Ok(()) => println!(rt; "{label}\ttaken\t{after}")?,
         Err(fault) => {
-            let n = fault.number();
-            let l = fault.line();
-            let f = fault.field();
-            let kept = sheet.tags().len() == tags
-                && sheet.points().len() == points
-                && sheet.orders().len() == orders;
-            let sheet_is = if kept { "" } else { "\tand the sheet changed" };
-            println!(rt; "{label}\trefused\t{n}\t{l}\t{f}{sheet_is}")?;
+            let number = fault.number();
+            let line = fault.line();
+            let field = fault.field();
+            let change = if after == before {
+                ""
+            } else {
+                "\tand the sheet changed"
+            };
+            println!(rt; "{label}\trefused\t{number}\t{line}\t{field}{change}")?;
         }
     }
     Ok(())
@@ -52,19 +76,12 @@ fn run_case(
 fn run(rt: &HostRuntime) -> anyhow::Result<()> {
     let heap = rt.alloc();
     let mut input = Vec::new(heap);
-    let _ = rt.stdin().read_to_end(&mut input)?;
+    rt.stdin().read_to_end(&mut input)?;
     let mut loader = Loader::new(heap)?;
     let mut sheet = Sheet::new(heap)?;
-    let mut rest = input.as_slice();
-    for _ in 0..100000 {
-        let (line, more) = cut(rest, b'\n');
-        if !line.is_empty() {
-            run_case(rt, &mut loader, &mut sheet, line)?;
-        }
-        let Some(after) = more else {
-            break;
-        };
-        rest = after;
+    let lines = input.split(|b| *b == b'\n').take(MOST_LINES);
+    for line in lines.filter(|line| !line.is_empty()) {
+        run_case(rt, &mut loader, &mut sheet, line)?;
     }
     Ok(())
 }

@@ -1,1 +1,2 @@
 pub mod TextLines
+pub mod WholeText

@@ -1,73 +1,42 @@
 // The lines of a text, read into a table.
 ghost use Rattle.std.specs.Prelude.{◌≡◌, ◌≤◌, true, length, Ok as Good, Err as Bad, MatchResult};
-ghost use Rattle.lines.specs.Lines.{line_of};
-ghost use Rattle.lines.specs.Reads.{Indexes};
+ghost use Rattle.lines.specs.Drafts.{drafted};
 ghost use Rattle.sheets.specs.Sheets.{blank, content, lawful};
 ghost use Rattle.text.specs.Split.{split};
-ghost use Rattle.verdicts.specs.Texts.{lined, lines_of};
+ghost use Rattle.verdicts.specs.Texts.{lines_of};
 
-use lines::read_record;
+use lines::Draft;
 use names::Name;
 use ordered::OrderedRows;
 use sheets::Table;
-use text::cut;
+use text::Pieces;
 use verdicts::{LineFault, LoadFault};
 
-// One line; its fault is made with its number.
-fn read_line(
-    table: &mut Table,
-    known: &mut OrderedRows<Name>,
-    number: usize,
-    line: &[u8],
-) -> Result<(), LineFault>
-    requires lawful { lawful (content table.old) ≡ true }
-    requires known { Indexes known.old (content table.old) }
-    ensures read { MatchResult result (λ _. lined number (line_of (content table.old) line.now) ≡ Good (content table.new)) (λ e. lined number (line_of (content table.old) line.now) ≡ Bad e) }
-    ensures lawful { lawful (content table.new) ≡ true }
-    ensures known { Indexes known.new (content table.new) }
+// Line after line, up to the first fault, which is made with its line's number. What stands behind the last line feed is no line.
+#[tactic(auto, using(text::proofs::Splits::split_none, crate::proofs::TextLines::lines_first))]
+fn read_lines(draft: &mut Draft, text: &[u8]) -> Result<(), LoadFault>
+    ensures read { MatchResult result (λ _. lines_of (split 10 text.now) 1 (drafted draft.old) ≡ Good (drafted draft.new)) (λ e. lines_of (split 10 text.now) 1 (drafted draft.old) ≡ Bad e) }
+    ensures same_table { draft.new.table.ghost_name ≡ draft.old.table.ghost_name }
 {
-    match read_record(table, known, line) {
-        Ok(()) => Ok(()),
-        Err(cause) => Err(LineFault {
-            line: number,
-            cause,
-        }),
+    let Some(end) = text.iter().rposition(|b| *b == b'\n') else {
+        return Ok(());
+    };
+    for (i, line) in Pieces::of(&text[..end], b'\n').enumerate() {
+        draft
+            .read_record(line)
+            .map_err(|cause| LineFault { line: i + 1, cause })?;
     }
-}
-
-// Line after line, up to the first fault.
-fn read_lines(
-    table: &mut Table,
-    known: &mut OrderedRows<Name>,
-    text: &[u8],
-) -> Result<(), LoadFault>
-    requires short { length text.now ≤ 32768 }
-    requires lawful { lawful (content table.old) ≡ true }
-    requires known { Indexes known.old (content table.old) }
-    ensures read { MatchResult result (λ _. lines_of (split 10 text.now) 1 (content table.old) ≡ Good (content table.new)) (λ e. lines_of (split 10 text.now) 1 (content table.old) ≡ Bad e) }
-    ensures lawful { lawful (content table.new) ≡ true }
-{
-    let mut number: usize = 1;
-    let mut rest = text;
-    loop {
-        let (line, more) = cut(rest, b'\n');
-        let Some(after) = more else {
-            return Ok(());
-        };
-        read_line(table, known, number, line)?;
-        rest = after;
-        number += 1;
-    }
+    Ok(())
 }
 
 // The table that the lines declare, from nothing.
 pub(crate) fn read_table(table: &mut Table, text: &[u8]) -> Result<(), LoadFault>
-    requires { length text.now ≤ 32768 }
     ensures read { MatchResult result (λ _. lines_of (split 10 text.now) 1 blank ≡ Good (content table.new)) (λ e. lines_of (split 10 text.now) 1 blank ≡ Bad e) }
     ensures lawful { lawful (content table.new) ≡ true }
 {
-    table.clear();
+    // An array, and no set of std: loading allocates nothing.
     let mut rows = [Name::BLANK; 128];
     let mut known = OrderedRows::new(&mut rows);
-    read_lines(table, &mut known, text)
+    let mut draft = Draft::over(table, &mut known);
+    read_lines(&mut draft, text)
 }

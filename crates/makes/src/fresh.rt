@@ -1,4 +1,5 @@
 // Fresh registers of every make. None of these functions has a premise but that there is a row for a duty.
+// One for each make: what differs is the constructor and how much memory it is lent, which is no type parameter. What they share is `works`.
 ghost use Rattle.std.specs.Prelude.{◌≡◌, ◌<◌, true, length};
 
 use crate::works::works;

@@ -1,69 +1,43 @@
--- The loops over the bytes of names. Assumes nothing.
-use Rattle.std.proofs.Common.{◌≡◌, ℕ, zero, suc, ◌+◌, ◌-◌, ◌<◌, ◌≤◌, min, false, ltb, List, [], ◌∷◌, ◌++◌, length, get_or, take, drop, set, replicate, sym, refl, ap, ◌∙◌, arith}
-use native.Mathlib.Nat.{sub-zero}
-use Rattle.std.proofs.lemmas.List.{append-nil, append_assoc, at_drop_more, at_drop_all, length-take-le, set_at, take_all, take_more, take-replicate}
-use Rattle.std.proofs.lemmas.Bool.{cond-true, cond-false, eq-eqb, ne_eqb, lt-ltb, le-ltb}
+-- What the code does with the bytes of names. Assumes nothing.
+use Rattle.std.proofs.Common.{◌≡◌, ℕ, ◌+◌, ◌-◌, ◌==◌, ◌⊎◌, ◌∙◌, sym, inl, inr, nat_lt, min, Bool, true, false, not, cond, List, [], ◌∷◌, ◌++◌, length, take, drop, replicate, None, refl, ap, one-add, arith}
 use Rattle.std.proofs.lemmas.Bool.Decides.{nat_tests}
+use Rattle.std.proofs.lemmas.List.{drop-replicate, take-append-le, take-replicate}
+use Rattle.std.proofs.lemmas.Grind.{common_steps}
+use Rattle.std.proofs.Math.Seq.{take-append-add}
+use native.Mathlib.Decide.{ℕ_discrete}
+use Rattle.std.specs.List.{position, position_or_len}
 use Rattle.names.specs.Names.{spelled, bytes_before}
-use Rattle.names.specs.NameLaws.{first_same}
 
--- the first i bytes are filled in, of n
-pub fill_more : (bs : List ℕ) (n i : ℕ) → i < length bs → i < n → set (take i bs ++ replicate (n - i) 0) i (get_or bs i 0) ≡ take (i + 1) bs ++ replicate (n - (i + 1)) 0
-fill_more bs n i h k =
-    let m : n - i ≡ suc (n - (i + 1)) = omega arith in
-    ap (λ j. set (take i bs ++ replicate j 0) i (get_or bs i 0)) m
-    ∙ set_at (take i bs) 0 (replicate (n - (i + 1)) 0) (get_or bs i 0) i (length-take-le i bs (omega arith))
-    ∙ sym (append_assoc (take i bs) (get_or bs i 0 ∷ []) (replicate (n - (i + 1)) 0))
-    ∙ ap (λ q. q ++ replicate (n - (i + 1)) 0) (sym (take_more bs i 0 h))
+-- where one list ends, the shorter of the two stood before the other
+ended_by : (xs ys : List ℕ) (m n : ℕ) → m + length ys ≡ n + length xs → (length xs ≡ 0) ⊎ (length ys ≡ 0) → nat_lt m n ≡ bytes_before xs ys
+ended_by xs [] m n e h = grind (arith, nat_tests)
+ended_by [] (y ∷ ys) m n e h = grind (arith, nat_tests)
+ended_by (x ∷ xs) (y ∷ ys) m n e h = absurd (elim h [ inl p ↦ omega arith | inr q ↦ omega arith ])
 
-pub fill_all : (bs : List ℕ) (n k i : ℕ) → n ≤ k → i ≡ min (length bs) n → take i bs ++ replicate (n - i) 0 ≡ take n (bs ++ replicate k 0)
-fill_all [] n k zero le e = rw sub-zero (sym (take-replicate n k 0 le))
-fill_all [] n k (suc i) le e = absurd (omega arith)
-fill_all (b ∷ bs) zero k zero le e = refl
-fill_all (b ∷ bs) zero k (suc i) le e = absurd (omega arith)
-fill_all (b ∷ bs) (suc n) k zero le e = absurd (omega arith)
-fill_all (b ∷ bs) (suc n) k (suc i) le e =
-    let m : suc n - suc i ≡ n - i = omega arith in
-    ap (λ j. b ∷ take i bs ++ replicate j 0) m ∙ ap (λ q. b ∷ q) (fill_all bs n k i (omega arith) (omega arith))
+pub ended : (vs ws xs ys : List ℕ) → bytes_before vs ws ≡ bytes_before xs ys → length vs + length ys ≡ length ws + length xs → (length xs ≡ 0) ⊎ (length ys ≡ 0) → nat_lt (length vs) (length ws) ≡ bytes_before vs ws
+ended vs ws xs ys same e h = ended_by xs ys _ _ e h ∙ sym same
 
-module _ (bs : List ℕ) (i : ℕ) (e : spelled bs ≡ take i bs ++ spelled (drop i bs)) where
-  pub spelled_more : i < length bs → (get_or bs i 0 ≡ 0 → ⊥) → spelled bs ≡ take (i + 1) bs ++ spelled (drop (i + 1) bs)
-  spelled_more lt ne =
-      e
-      ∙ ap (λ q. take i bs ++ q) (at_drop_more spelled bs i 0 lt ∙ cond-false _ _ _ (ne_eqb (get_or bs i 0) 0 ne))
-      ∙ sym (append_assoc (take i bs) (get_or bs i 0 ∷ []) (spelled (drop (i + 1) bs)))
-      ∙ ap (λ q. q ++ spelled (drop (i + 1) bs)) (sym (take_more bs i 0 lt))
+-- the first bytes, k at most, and zeros after them up to k
+padded : (bs : List ℕ) (n k : ℕ) → n ≡ min (length bs) k → take n bs ++ drop n (replicate k 0) ≡ take k (bs ++ replicate k 0)
+padded bs n k e = elim (ℕ_discrete (k - length bs) 0) [
+  | yes p ↦ grind (arith, common_steps, take-append-le {A = ℕ}, drop-replicate {X = ℕ})
+  | no p ↦ let w : k ≡ length bs + (k - length bs) = omega arith in grind (arith, common_steps, take-append-add {A = ℕ} bs (replicate k 0) (k - length bs), take-replicate {X = ℕ} (k - length bs) k 0 (omega arith), drop-replicate {X = ℕ} n k 0)
+]
 
-  -- as the part of a slice is written
-  pub spelled_here : i < length bs → get_or bs i 0 ≡ 0 → take (i - 0) bs ≡ spelled bs
-  spelled_here lt is =
-      ap (λ j. take j bs) (sub-zero i)
-      ∙ sym (e ∙ ap (λ q. take i bs ++ q) (at_drop_more spelled bs i 0 lt ∙ cond-true _ _ _ (eq-eqb (get_or bs i 0) 0 is)) ∙ append-nil (take i bs))
+-- as they are copied over 16 zeros
+pub filled : (bs xs zs : List ℕ) (n : ℕ) → n ≡ min (length bs) 16 → xs ≡ take n bs → zs ≡ replicate 16 0 → xs ++ drop n zs ≡ take 16 (bs ++ replicate 16 0)
+filled bs xs zs n e f g = rw (f, g) (padded bs n 16 e)
 
-  pub spelled_all : length bs ≤ i → bs ≡ spelled bs
-  spelled_all le =
-      sym (e ∙ ap (λ q. take i bs ++ q) (at_drop_all spelled bs i le) ∙ append-nil (take i bs) ∙ take_all i bs le)
+-- with one more byte in front, where the test of it is t
+first_step : (t : Bool) (b k : ℕ) (bs q : List ℕ) → take k bs ≡ q → take (cond (not t) (1 + k) 0) (b ∷ bs) ≡ cond t [] (b ∷ q)
+first_step true b k bs q e = refl
+first_step false b k bs q e = rw one-add (ap (λ l. b ∷ l) e)
 
-nil_before : (bs : List ℕ) (i : ℕ) → bytes_before [] (drop i bs) ≡ ltb i (length bs)
-nil_before [] zero = refl
-nil_before [] (suc i) = sym (le-ltb (suc i) 0 (omega arith))
-nil_before (b ∷ bs) zero = sym (lt-ltb 0 (suc (length bs)) (omega arith))
-nil_before (b ∷ bs) (suc i) = nil_before bs i ∙ grind (arith, nat_tests)
+-- the first zero ends a name
+pub spelled_first : (bs : List ℕ) → take (position_or_len (λ b. b == 0) bs) bs ≡ spelled bs
+spelled_first [] = refl
+spelled_first (b ∷ bs) = first_step (b == 0) b _ bs _ (spelled_first bs)
 
-module _ (xs ys : List ℕ) (i : ℕ) (e : bytes_before xs ys ≡ bytes_before (drop i xs) (drop i ys)) where
-  pub less_none : length ys ≤ i → false ≡ bytes_before xs ys
-  less_none le = sym (e ∙ at_drop_all (bytes_before (drop i xs)) ys i le)
-
-  module _ (lt : i < length xs) (lu : i < length ys) where
-    both : bytes_before xs ys ≡ bytes_before (get_or xs i 0 ∷ drop (i + 1) xs) (get_or ys i 0 ∷ drop (i + 1) ys)
-    both = e ∙ at_drop_more (λ q. bytes_before q (drop i ys)) xs i 0 lt ∙ at_drop_more (bytes_before (get_or xs i 0 ∷ drop (i + 1) xs)) ys i 0 lu
-
-    pub less_here : (get_or xs i 0 ≡ get_or ys i 0 → ⊥) → ltb (get_or xs i 0) (get_or ys i 0) ≡ bytes_before xs ys
-    less_here ne = grind (arith, nat_tests, both)
-
-    pub less_more : get_or xs i 0 ≡ get_or ys i 0 → bytes_before xs ys ≡ bytes_before (drop (i + 1) xs) (drop (i + 1) ys)
-    less_more is = both ∙ ap (λ x. bytes_before (x ∷ drop (i + 1) xs) (get_or ys i 0 ∷ drop (i + 1) ys)) is ∙ first_same (get_or ys i 0) _
-
-  pub less_end : i ≡ length xs → ltb (length xs) (length ys) ≡ bytes_before xs ys
-  less_end is =
-      sym (e ∙ at_drop_all (λ q. bytes_before q (drop i ys)) xs i (omega arith) ∙ nil_before ys i ∙ ap (λ k. ltb k (length ys)) is)
+-- and where there is none it has every byte
+pub spelled_whole : (bs : List ℕ) → position (λ b. b == 0) bs ≡ None → bs ≡ spelled bs
+spelled_whole bs none = let e = spelled_first bs in grind (arith, common_steps, nat_tests)

@@ -6,15 +6,13 @@ ghost use Rattle.names.specs.NameLaws.{name_irreflexive, name_transitive, name_t
 use crate::name::Name;
 use ordered::{Keyed, TotalOrder};
 
+// By the first bytes that differ. The derived comparison says the same, at twice the time of a whole load.
 fn bytes_less(a: &[u8], b: &[u8]) -> bool
     ensures { result ≡ bytes_before a.now b.now }
 {
-    for (i, x) in a.iter().enumerate() {
-        if i >= b.len() {
-            return false;
-        }
-        if *x != b[i] {
-            return *x < b[i];
+    for (x, y) in a.iter().zip(b) {
+        if x != y {
+            return x < y;
         }
     }
     a.len() < b.len()

@@ -1,21 +1,9 @@
--- The last that passes a test: one more at the end, and what the place says of a key. Assumes nothing.
-use Rattle.std.proofs.Common.{◌≡◌, ℕ, zero, suc, ◌+◌, ◌<◌, Bool, true, false, cond, List, [], ◌∷◌, ◌++◌, length, get_or, take, Some, None, Option, sym, refl, ap, ◌∙◌, arith}
-use Rattle.std.proofs.lemmas.List.{take_more, length-take-le}
+-- The last that passes a test: what its place says of a key, and that this tells the place. Assumes nothing.
+use Rattle.std.proofs.Common.{◌≡◌, ℕ, zero, suc, ◌<◌, Bool, true, false, List, [], ◌∷◌, length, get_or, Some, None, Option, refl, ap, inl, inr, arith}
+use Rattle.std.proofs.lemmas.Bool.{both_ways, cases_order}
 use Rattle.ordered.specs.Finding.{later, last_place, LastWith}
 
 module _ {X : Type 0} (f : X → Bool) where
-  last_push : (xs : List X) (x : X) (b : Bool) → f x ≡ b → last_place f (xs ++ x ∷ []) ≡ cond b (Some (length xs)) (last_place f xs)
-  last_push [] x b e = ap (λ q. cond q (Some 0) None) e
-  last_push (y ∷ ys) x b e =
-      ap (λ o. later o (f y)) (last_push ys x b e)
-      ∙ elim b as (λ q. later (cond q (Some (length ys)) (last_place f ys)) (f y) ≡ cond q (Some (suc (length ys))) (later (last_place f ys) (f y))) [ true ↦ refl | false ↦ refl ]
-
-  pub last_more : (xs : List X) (x : X) (i : ℕ) (b : Bool) → i < length xs → x ≡ get_or xs i x → f x ≡ b → last_place f (take (i + 1) xs) ≡ cond b (Some i) (last_place f (take i xs))
-  last_more xs x i b h e t =
-      ap (last_place f) (take_more xs i x h ∙ ap (λ v. take i xs ++ v ∷ []) (sym e))
-      ∙ last_push (take i xs) x b t
-      ∙ ap (λ n. cond b (Some n) (last_place f (take i xs))) (length-take-le i xs (omega arith))
-
   -- where the test tells whether the key is k
   module _ {K : Type 0} (key : X → K) (k : K) (yes : (x : X) → f x ≡ true → key x ≡ k) (never : (x : X) → f x ≡ false → key x ≡ k → ⊥) where
     none_after : (y : X) (ys : List X) (i : ℕ) → ((j : ℕ) (x : X) → i < j → j < length ys → key (get_or ys j x) ≡ k → ⊥) → (j : ℕ) (x : X) → suc i < j → j < suc (length ys) → key (get_or (y ∷ ys) j x) ≡ k → ⊥
@@ -38,3 +26,23 @@ module _ {X : Type 0} (f : X → Bool) where
     pub last_with : (xs : List X) → LastWith key xs k (last_place f xs)
     last_with [] = λ i x h e. absurd (omega arith)
     last_with (y ∷ ys) = step y ys (last_place f ys) (f y) refl (last_with ys)
+
+  module _ (xs : List X) (r : Option ℕ)
+      (within : (i : ℕ) → r ≡ Some i → i < length xs)
+      (none : (j : ℕ) (x : X) → r ≡ None → j < length xs → f (get_or xs j x) ≡ false)
+      (hit : (i : ℕ) (x : X) → r ≡ Some i → f (get_or xs i x) ≡ true)
+      (after : (i j : ℕ) (x : X) → r ≡ Some i → i < j → j < length xs → f (get_or xs j x) ≡ false) where
+    told : (x : X) (p q : Option ℕ) → r ≡ p → LastWith f xs true q → p ≡ q
+    told x None None e h = refl
+    told x None (Some j) e h = absurd (both_ways _ (none j x e h.0) (h.1 x))
+    told x (Some i) None e h = absurd (h i x (within i e) (hit i x e))
+    told x (Some i) (Some j) e h =
+        ap Some (elim (cases_order i j) [
+          | inl same ↦ same
+          | inr apart ↦ elim apart [ inl less ↦ absurd (both_ways _ (after i j x e less h.0) (h.1 x)) | inr more ↦ absurd (h.2 i x more (within i e) (hit i x e)) ]
+        ])
+
+  pub last_place_is : (xs : List X) (r : Option ℕ) → ((i : ℕ) → r ≡ Some i → i < length xs) → ((j : ℕ) (x : X) → r ≡ None → j < length xs → f (get_or xs j x) ≡ false) → ((i : ℕ) (x : X) → r ≡ Some i → f (get_or xs i x) ≡ true) → ((i j : ℕ) (x : X) → r ≡ Some i → i < j → j < length xs → f (get_or xs j x) ≡ false) → r ≡ last_place f xs
+  last_place_is [] None within none hit after = refl
+  last_place_is [] (Some i) within none hit after = absurd (omega (arith, within i refl))
+  last_place_is (x ∷ xs) r within none hit after = told (x ∷ xs) r within none hit after x r (last_place f (x ∷ xs)) refl (last_with f true (λ y e. e) (λ y e h. both_ways _ e h) (x ∷ xs))

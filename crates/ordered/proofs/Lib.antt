@@ -1,6 +1,5 @@
 pub mod Changes
 pub mod Last
-pub mod Place
 pub mod Sets
 pub mod Shift
 pub mod Unions

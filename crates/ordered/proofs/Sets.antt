@@ -1,26 +1,12 @@
 -- Ascending lists as sets, under a total order. Assumes nothing else.
-use Rattle.std.proofs.Common.{◌≡◌, suc, ◌≤◌, Bool, true, false, cond, not, ◌&&◌, ◌||◌, ◌⊎◌, ◌↔◌, List, [], ◌∷◌, length, Some, None, Decides, Option, sym, refl, ap, ◌∙◌, subst, inl, inr, arith}
-use Rattle.std.proofs.lemmas.Bool.{both_ways, not-true, not_from_true, not_from_false, and_parts, and_from, and_left, or_from, or_left, or_right, or_cases}
+use Rattle.std.proofs.Common.{◌≡◌, suc, ◌≤◌, Bool, true, false, cond, not, ◌&&◌, ◌||◌, ◌⊎◌, ◌↔◌, List, [], ◌∷◌, length, Some, None, Decides, Option, find, sym, refl, ap, ◌∙◌, subst, inl, inr, arith}
+use Rattle.std.proofs.lemmas.Bool.{both_ways, not-true, not_from_true, not_from_false, and_parts, and_from, and_left, or_from, or_left, or_right, or_cases, false_from_ne_true}
+use Rattle.std.proofs.Math.Bool.{and-false, or_assoc, or_comm, or_self_left}
 use Rattle.std.proofs.lemmas.Bool.Decides.{Decides-at, Decides-or}
 use Rattle.ordered.specs.Ascending.{same, member, below, rising, including, excluding, holding, following, leading, union, Least, ◌∈◌, Above, LeastSuch}
 
 or_swap : (a b c : Bool) → (a || (b || c)) ≡ (b || (a || c))
-or_swap true true c = refl
-or_swap true false c = refl
-or_swap false true c = refl
-or_swap false false c = refl
-
-or_again : (a c : Bool) → (a || c) ≡ (a || (a || c))
-or_again true c = refl
-or_again false c = refl
-
-or_join : (a b c : Bool) → (a || (b || c)) ≡ ((a || b) || c)
-or_join true b c = refl
-or_join false b c = refl
-
-and_none : (a : Bool) → false ≡ (a && false)
-and_none true = refl
-and_none false = refl
+or_swap a b c = sym (or_assoc a b c) ∙ ap (λ q. q || c) (or_comm a b) ∙ or_assoc b a c
 
 skip_other : (s t m : Bool) → (t ≡ true → s ≡ false) → (t || (not s && m)) ≡ (not s && (t || m))
 skip_other true true m h = absurd (both_ways true (h refl) refl)
@@ -124,7 +110,7 @@ module _ {X : Type 0} (less : X → X → Bool) (irreflexive : (x : X) → less 
   holding_member x (y ∷ ys) h =
       let p = and_parts _ _ h in
       elim (less y x) as (λ b. less y x ≡ b → cond b (holding less x ys) (not (less x y)) ≡ ((not (less x y) && not b) || member less x ys)) [
-        | true ↦ λ e. holding_member x ys p.1 ∙ ap (λ q. q || member less x ys) (and_none (not (less x y)))
+        | true ↦ λ e. holding_member x ys p.1 ∙ ap (λ q. q || member less x ys) (sym (and-false (not (less x y))))
         | false ↦ λ e. elim (less x y) as (λ b. less x y ≡ b → not b ≡ ((not b && true) || member less x ys)) [ true ↦ λ f. sym (absent x ys (below_trans x y ys f p.0)) | false ↦ λ f. refl ] refl
       ]
       refl
@@ -136,14 +122,14 @@ module _ {X : Type 0} (less : X → X → Bool) (irreflexive : (x : X) → less 
         | true ↦ λ e. ap (λ q. same less z y || q) (member_including z x ys) ∙ or_swap (same less z y) (same less z x) (member less z ys)
         | false ↦ λ e. elim (less x y) as (λ b. less x y ≡ b → member less z (cond b (x ∷ (y ∷ ys)) (y ∷ ys)) ≡ (same less z x || (same less z y || member less z ys))) [
           | true ↦ λ f. refl
-          | false ↦ λ f. or_again (same less z y) (member less z ys) ∙ ap (λ v. same less z v || (same less z y || member less z ys)) (total y x e f)
+          | false ↦ λ f. sym (or_self_left (same less z y) (member less z ys)) ∙ ap (λ v. same less z v || (same less z y || member less z ys)) (total y x e f)
         ]
             refl
       ]
       refl
 
   pub member_excluding : (z x : X) (ys : List X) → rising less ys ≡ true → member less z (excluding less x ys) ≡ (not (same less z x) && member less z ys)
-  member_excluding z x [] h = and_none (not (same less z x))
+  member_excluding z x [] h = sym (and-false (not (same less z x)))
   member_excluding z x (y ∷ ys) h =
       let p = and_parts _ _ h in
       elim (less y x) as (λ b. less y x ≡ b → member less z (cond b (y ∷ excluding less x ys) (cond (less x y) (y ∷ ys) ys)) ≡ (not (same less z x) && (same less z y || member less z ys))) [
@@ -181,7 +167,7 @@ module _ {X : Type 0} (less : X → X → Bool) (irreflexive : (x : X) → less 
 
   pub member_union : (z : X) (xs ys : List X) → member less z (union less xs ys) ≡ (member less z xs || member less z ys)
   member_union z [] ys = refl
-  member_union z (x ∷ xs) ys = member_including z x (union less xs ys) ∙ ap (λ q. same less z x || q) (member_union z xs ys) ∙ or_join (same less z x) (member less z xs) (member less z ys)
+  member_union z (x ∷ xs) ys = member_including z x (union less xs ys) ∙ ap (λ q. same less z x || q) (member_union z xs ys) ∙ sym (or_assoc (same less z x) (member less z xs) (member less z ys))
 
   pub member_decides : (x : X) (ys : List X) → Decides (member less x ys) (x ∈ ys)
   member_decides x [] = ((λ m. absurd (both_ways false refl m)), (λ m. absurd m))
@@ -230,52 +216,35 @@ module _ {X : Type 0} (less : X → X → Bool) (irreflexive : (x : X) → less 
     λ z m k. elim m [ inl e ↦ absurd (o (subst P e k)) | inr n ↦ h.2 z n k ],
   )
 
-  pub following_such : (x : X) (ys : List X) → rising less ys ≡ true → LeastSuch less (Above less (Some x)) ys (following less x ys)
-  following_such x [] h = λ z m k. m
-  following_such x (y ∷ ys) h =
+  -- the first of an ascending list that passes is the least of those that do
+  pub first_such : (test : X → Bool) (ys : List X) → rising less ys ≡ true → LeastSuch less (λ z. test z ≡ true) ys (find test ys)
+  first_such test [] h = λ z m k. m
+  first_such test (y ∷ ys) h =
       let p = and_parts _ _ h in
-      elim (less x y) as (λ b. less x y ≡ b → LeastSuch less (Above less (Some x)) (y ∷ ys) (cond b (Some y) (following less x ys))) [
-        | true ↦ λ e. such_here (Above less (Some x)) y ys p.0 e
-        | false ↦ λ e. such_skip (Above less (Some x)) y ys (following less x ys) (both_ways _ e) (following_such x ys p.1)
+      elim (test y) as (λ b. test y ≡ b → LeastSuch less (λ z. test z ≡ true) (y ∷ ys) (cond b (Some y) (find test ys))) [
+        | true ↦ λ e. such_here (λ z. test z ≡ true) y ys p.0 e
+        | false ↦ λ e. such_skip (λ z. test z ≡ true) y ys (find test ys) (both_ways _ e) (first_such test ys p.1)
       ]
       refl
+
+  pub following_such : (x : X) (ys : List X) → rising less ys ≡ true → LeastSuch less (Above less (Some x)) ys (following less x ys)
+  following_such x = first_such (less x)
 
   pub leading_such : (ys : List X) → rising less ys ≡ true → LeastSuch less (Above less None) ys (leading ys)
   leading_such [] h = λ z m k. m
   leading_such (y ∷ ys) h = such_here (Above less None) y ys (and_parts _ _ h).0 tt
 
-  below_member : (y z : X) (ys : List X) → below less y ys ≡ true → member less z ys ≡ true → less z y ≡ false
-  below_member y z [] h m = absurd (both_ways false refl m)
-  below_member y z (w ∷ ys) h m =
-      let p = and_parts _ _ h in
-      let apart : less w y ≡ false = elim (less w y) as (λ b. less w y ≡ b → b ≡ false) [ true ↦ λ f. sym (transitive y w y p.0 f) ∙ irreflexive y | false ↦ λ f. refl ] refl in
-      elim (or_cases _ _ m) [ inl s ↦ ap (λ v. less v y) (same_is z w s) ∙ apart | inr n ↦ below_member y z ys p.1 n ]
-
-  least_here : (ok : X → Bool) (y : X) (ys : List X) → below less y ys ≡ true → ok y ≡ true → Least less ok (y ∷ ys) (Some y)
-  least_here ok y ys h o = (
-    or_left _ _ (same_refl y),
-    o,
-    λ z m k. elim (or_cases _ _ m) [ inl s ↦ ap (λ v. less v y) (same_is z y s) ∙ irreflexive y | inr n ↦ below_member y z ys h n ],
-  )
-
-  least_skip : (ok : X → Bool) (y : X) (ys : List X) (r : Option X) → ok y ≡ false → Least less ok ys r → Least less ok (y ∷ ys) r
-  least_skip ok y ys None o h = λ z m. elim (or_cases _ _ m) [ inl s ↦ ap ok (same_is z y s) ∙ o | inr n ↦ h z n ]
-  least_skip ok y ys (Some w) o h = (
-    or_right _ _ h.0,
-    h.1,
-    λ z m k. elim (or_cases _ _ m) [ inl s ↦ absurd (both_ways _ (ap ok (same_is z y s) ∙ o) k) | inr n ↦ h.2 z n k ],
+  -- the same by tests
+  pub least_by_test : (ok : X → Bool) (P : X → Type 0) → ((z : X) → Decides (ok z) (P z)) → (ys : List X) (r : Option X) → LeastSuch less P ys r → Least less ok ys r
+  least_by_test ok P d ys None h = λ z m. false_from_ne_true (ok z) (λ o. h z ((member_decides z ys).0 m) ((d z).0 o))
+  least_by_test ok P d ys (Some y) h = (
+    (member_decides y ys).1 h.0,
+    (d y).1 h.1,
+    λ z m o. h.2 z ((member_decides z ys).0 m) ((d z).0 o),
   )
 
   pub following_least : (x : X) (ys : List X) → rising less ys ≡ true → Least less (less x) ys (following less x ys)
-  following_least x [] h = λ z m. absurd (both_ways false refl m)
-  following_least x (y ∷ ys) h =
-      let p = and_parts _ _ h in
-      elim (less x y) as (λ b. less x y ≡ b → Least less (less x) (y ∷ ys) (cond b (Some y) (following less x ys))) [
-        | true ↦ λ e. least_here (less x) y ys p.0 e
-        | false ↦ λ e. least_skip (less x) y ys (following less x ys) e (following_least x ys p.1)
-      ]
-      refl
+  following_least x ys h = least_by_test (less x) (Above less (Some x)) (λ z. ((λ e. e), (λ e. e))) ys (following less x ys) (following_such x ys h)
 
   pub leading_least : (ys : List X) → rising less ys ≡ true → Least less (λ z. true) ys (leading ys)
-  leading_least [] h = λ z m. absurd (both_ways false refl m)
-  leading_least (y ∷ ys) h = least_here (λ z. true) y ys (and_parts _ _ h).0 refl
+  leading_least ys h = least_by_test (λ z. true) (Above less None) (λ z. ((λ e. tt), (λ k. refl))) ys (leading ys) (leading_such ys h)

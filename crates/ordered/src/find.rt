@@ -13,6 +13,7 @@ pub trait Keyed<K> {
         ensures { result ≡ keyed self.now };
 }
 
+// By the order alone, as the contract has it: an `Eq` of its own would be one more thing to ask of a key.
 fn is_same<K: TotalOrder>(x: &K, y: &K) -> bool
     ensures { result ≡ same K.less x.now y.now }
 {
@@ -24,12 +25,5 @@ pub fn find_last<K: TotalOrder, T: Keyed<K>>(rows: &[T], key: K) -> Option<usize
     ensures place { result ≡ last_place (λ row. same K.less (T.keyed row) key) rows.now }
     ensures last { LastWith T.keyed rows.now key result }
 {
-    let mut found = None;
-    for (i, row) in rows.iter().enumerate() {
-        let found_key = row.key();
-        if is_same(&found_key, &key) {
-            found = Some(i);
-        }
-    }
-    found
+    rows.iter().rposition(|row| is_same(&row.key(), &key))
 }

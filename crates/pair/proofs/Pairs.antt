@@ -1,7 +1,9 @@
 -- What is done to one register of a pair is done to the pair. Assumes nothing.
-use Rattle.std.proofs.Common.{◌≡◌, ℕ, ◌+◌, ◌<◌, ◌≤◌, min, Bool, true, false, ◌⊎◌, ◌↔◌, List, length, Some, None, Decides, Option, sym, ap, ◌∙◌, subst, inl, inr, arith}
+use Rattle.std.proofs.Common.{◌≡◌, ℕ, ◌+◌, ◌<◌, ◌≤◌, Bool, true, false, ◌⊎◌, ◌↔◌, List, length, Some, None, Decides, Option, sym, ap, ◌∙◌, subst, inl, inr, arith}
 use Rattle.std.proofs.lemmas.Bool.{both_ways, cases_Bool}
 use Rattle.std.proofs.lemmas.Bool.Decides.{Decides-like}
+use Rattle.std.proofs.Props.{props}
+use std.HLevel.{prop→path_p}
 use Rattle.ordered.specs.Ascending.{◌∈◌, rising, union, LeastSuch}
 use Rattle.ordered.proofs.Sets as sets
 use Rattle.ordered.proofs.Unions as unions
@@ -73,7 +75,7 @@ module _ (d : Duty) (r : Bool) (set set' : List Duty) (up : rising before set �
       unions.length_one_more before before_irreflexive before_transitive before_total d set' set up' up
       (λ e m. elim ((s.each e).0 m) [ inl a ↦ inr a | inr q ↦ inl q.0 ])
 
-module _ {S T : Type 0} {xs ys : List Duty} {m n : ℕ} (p : Parted S T xs ys m n) where
+module _ {xs ys : List Duty} {room : ℕ} (p : Parted xs ys room) where
   not_in_second : (d : Duty) → scan d ≡ true → d ∈ ys → ⊥
   not_in_second d h k = both_ways (scan d) (p.others d k) h
 
@@ -97,39 +99,43 @@ module _ {S T : Type 0} {xs ys : List Duty} {m n : ℕ} (p : Parted S T xs ys m 
         | inr h ↦ held_part d ys xs (union before xs ys) (λ e. in_union_second e xs ys) (not_in_first d h) r (second h)
       ]
 
-  -- a pair stays one where its parts have what belongs to them, its room is the same and its set fits
-  stays_parted : {S' T' : Type 0} {xs' ys' : List Duty} {m' n' : ℕ} → S' → T' → ((e : Duty) → e ∈ xs' → scan e ≡ true) → ((e : Duty) → e ∈ ys' → scan e ≡ false) → rising before ys' ≡ true → min m' n' ≡ min m n → length (union before xs' ys') ≤ min m n → Parted S' T' xs' ys' m' n'
-  stays_parted {xs' = xs'} {ys' = ys'} s t scans others on same fits = record {
-    first_sound = s;
-    second_sound = t;
+  -- the parts stay parted where they have what belongs to them, the room is the same and the set fits
+  stays_parted : {xs' ys' : List Duty} {room' : ℕ} → ((e : Duty) → e ∈ xs' → scan e ≡ true) → ((e : Duty) → e ∈ ys' → scan e ≡ false) → rising before ys' ≡ true → room' ≡ room → length (union before xs' ys') ≤ room → Parted xs' ys' room'
+  stays_parted {xs' = xs'} {ys' = ys'} scans others on same fits = record {
     scans = scans;
     others = others;
     lawful = record { ascending = rising_union xs' ys' on; fits = omega arith; small = omega (arith, p.lawful.small) };
   }
 
   -- the first is changed, or the second
-  module _ (d : Duty) (r : Bool) (h : scan d ≡ true) {S' : Type 0} (xs' : List Duty) {m' : ℕ} (s : S') (same : m' ≡ m) (on : rising before ys ≡ true) where
-    pub strikes_first : Struck d r xs xs' → Struck d r (union before xs ys) (union before xs' ys) × Parted S' T xs' ys m' n
+  module _ (d : Duty) (r : Bool) (h : scan d ≡ true) (xs' : List Duty) {room' : ℕ} (same : room' ≡ room) (on : rising before ys ≡ true) where
+    pub strikes_first : Struck d r xs xs' → Struck d r (union before xs ys) (union before xs' ys) × Parted xs' ys room'
     strikes_first k =
         let done = struck_part d xs ys (union before xs ys) (λ e. in_union e xs ys) (not_in_second d h) r xs' (union before xs' ys) (λ e. in_union e xs' ys) k in
         let fewer = struck_length d r (union before xs ys) (union before xs' ys) p.lawful.ascending (rising_union xs' ys on) done in
-        (done, stays_parted s p.second_sound (λ e a. p.scans e ((k.each e).0 a).0) p.others on (ap (λ j. min j n) same) (omega (arith, fewer, p.lawful.fits)))
+        (done, stays_parted (λ e a. p.scans e ((k.each e).0 a).0) p.others on same (omega (arith, fewer, p.lawful.fits)))
 
-    pub enters_first : rising before xs ≡ true → length (union before xs ys) < min m n → Entered d r xs xs' m → Entered d r (union before xs ys) (union before xs' ys) (min m n) × Parted S' T xs' ys m' n
-    enters_first up within k =
-        let done = entered_part d xs ys (union before xs ys) (λ e. in_union e xs ys) (not_in_second d h) r xs' (union before xs' ys) (λ e. in_union e xs' ys) up p.lawful.ascending (omega arith) within k in
+    pub enters_first : {places : ℕ} → room ≤ places → rising before xs ≡ true → length (union before xs ys) < room → Entered d r xs xs' places → Entered d r (union before xs ys) (union before xs' ys) room × Parted xs' ys room'
+    enters_first wide up within k =
+        let done = entered_part d xs ys (union before xs ys) (λ e. in_union e xs ys) (not_in_second d h) r xs' (union before xs' ys) (λ e. in_union e xs' ys) up p.lawful.ascending wide within k in
         let one_more = entered_length d r (union before xs ys) (union before xs' ys) p.lawful.ascending (rising_union xs' ys on) done in
-        (done, stays_parted s p.second_sound (λ e a. elim ((k.each e).0 a) [ inl b ↦ p.scans e b | inr q ↦ ap scan q.0 ∙ h ]) p.others on (ap (λ j. min j n) same) (omega (arith, one_more)))
+        (done, stays_parted (λ e a. elim ((k.each e).0 a) [ inl b ↦ p.scans e b | inr q ↦ ap scan q.0 ∙ h ]) p.others on same (omega (arith, one_more)))
 
-  module _ (d : Duty) (r : Bool) (h : scan d ≡ false) {T' : Type 0} (ys' : List Duty) {n' : ℕ} (t : T') (same : n' ≡ n) (on : rising before ys' ≡ true) where
-    pub strikes_second : Struck d r ys ys' → Struck d r (union before xs ys) (union before xs ys') × Parted S T' xs ys' m n'
+  module _ (d : Duty) (r : Bool) (h : scan d ≡ false) (ys' : List Duty) {room' : ℕ} (same : room' ≡ room) (on : rising before ys' ≡ true) where
+    pub strikes_second : Struck d r ys ys' → Struck d r (union before xs ys) (union before xs ys') × Parted xs ys' room'
     strikes_second k =
         let done = struck_part d ys xs (union before xs ys) (λ e. in_union_second e xs ys) (not_in_first d h) r ys' (union before xs ys') (λ e. in_union_second e xs ys') k in
         let fewer = struck_length d r (union before xs ys) (union before xs ys') p.lawful.ascending (rising_union xs ys' on) done in
-        (done, stays_parted p.first_sound t p.scans (λ e a. p.others e ((k.each e).0 a).0) on (ap (λ j. min m j) same) (omega (arith, fewer, p.lawful.fits)))
+        (done, stays_parted p.scans (λ e a. p.others e ((k.each e).0 a).0) on same (omega (arith, fewer, p.lawful.fits)))
 
-    pub enters_second : rising before ys ≡ true → length (union before xs ys) < min m n → Entered d r ys ys' n → Entered d r (union before xs ys) (union before xs ys') (min m n) × Parted S T' xs ys' m n'
-    enters_second up within k =
-        let done = entered_part d ys xs (union before xs ys) (λ e. in_union_second e xs ys) (not_in_first d h) r ys' (union before xs ys') (λ e. in_union_second e xs ys') up p.lawful.ascending (omega arith) within k in
+    pub enters_second : {places : ℕ} → room ≤ places → rising before ys ≡ true → length (union before xs ys) < room → Entered d r ys ys' places → Entered d r (union before xs ys) (union before xs ys') room × Parted xs ys' room'
+    enters_second wide up within k =
+        let done = entered_part d ys xs (union before xs ys) (λ e. in_union_second e xs ys) (not_in_first d h) r ys' (union before xs ys') (λ e. in_union_second e xs ys') up p.lawful.ascending wide within k in
         let one_more = entered_length d r (union before xs ys) (union before xs ys') p.lawful.ascending (rising_union xs ys' on) done in
-        (done, stays_parted p.first_sound t p.scans (λ e a. elim ((k.each e).0 a) [ inl b ↦ p.others e b | inr q ↦ ap scan q.0 ∙ h ]) on (ap (λ j. min m j) same) (omega (arith, one_more)))
+        (done, stays_parted p.scans (λ e a. elim ((k.each e).0 a) [ inl b ↦ p.others e b | inr q ↦ ap scan q.0 ∙ h ]) on same (omega (arith, one_more)))
+
+-- that parts are parted has one proof, so pairs of equal parts are equal
+pub same_pair : {X P : Type 0} (xs ys : X → List Duty) (room : X → ℕ) (pair : (v : X) → Parted (xs v) (ys v) (room v) → P) {x y : X} → x ≡ y → (p : Parted (xs x) (ys x) (room x)) (q : Parted (xs y) (ys y) (room y)) → pair x p ≡ pair y q
+same_pair xs ys room pair {y = y} e p q =
+    let one : IsProp (Parted (xs y) (ys y) (room y)) = hlevel props in
+    λ i. pair (e i) (prop→path_p (λ j. Parted (xs (e j)) (ys (e j)) (room (e j))) one p q i)

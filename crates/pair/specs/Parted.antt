@@ -1,5 +1,5 @@
 -- What a pair of registers keeps. Assumes nothing.
-use Rattle.std.specs.Prelude.{◌≡◌, ℕ, min, Bool, true, false, List}
+use Rattle.std.specs.Prelude.{◌≡◌, ℕ, Bool, true, false, List}
 use Rattle.ordered.specs.Ascending.{◌∈◌, union}
 use Rattle.duties.specs.Duties.{before}
 use Rattle.duties.specs.declared.duty.Duty.{Duty}
@@ -16,10 +16,8 @@ scan_task (Hold l) = false
 abbrev pub scan : Duty → Bool
 scan d = scan_task d.task
 
--- S and T say that the two registers are sound. The first has scan duties alone, the second the others; and all of them together fit the smaller room.
-pub record Parted (S T : Type 0) (first second : List Duty) (room-first room-second : ℕ) : Type 0 where
-  pub first_sound : S
-  pub second_sound : T
+-- The first has scan duties alone, the second the others; and all of them together fit the room.
+pub record Parted (first second : List Duty) (room : ℕ) : Type 0 where
   pub scans : (d : Duty) → d ∈ first → scan d ≡ true
   pub others : (d : Duty) → d ∈ second → scan d ≡ false
-  pub lawful : Lawful (union before first second) (min room-first room-second)
+  pub lawful : Lawful (union before first second) room

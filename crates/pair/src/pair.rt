@@ -1,57 +1,55 @@
-ghost use Rattle.std.specs.Prelude.{◌≡◌, ◌+◌, ◌-◌, ◌^◌, min, true, false, [], length, Decides, nat_le};
+ghost use Rattle.std.specs.Prelude.{◌≡◌, ◌+◌, min, true, false, [], length, Decides, nat_le};
 ghost use Rattle.ordered.specs.Ascending.{◌∈◌, union};
 ghost use Rattle.duties.specs.Duties.{before};
 ghost use Rattle.pair.specs.Lesser.{lesser};
 ghost use Rattle.pair.specs.Parted.{scan, Parted};
 
 use duties::{Duty, Task};
-use ordered::TotalOrder;
 use registers::{Register, emptied};
 
 // Two registers as one: the first has the scan duties, the second the others, and its room is the smaller of theirs.
 #[derive(Drop)]
-pub struct Pair<A, B> {
+pub struct Pair<A: Register, B: Register> {
     first: A,
     second: B,
+    ghost parted: { Parted (A.Register.duties first) (B.Register.duties second) (min (A.Register.places first) (B.Register.places second)) },
 }
 
 // Which of the two a duty belongs to: the first has those that ask for a scan.
 fn is_scan(d: Duty) -> bool
     ensures { result ≡ scan d }
 {
-    match d.task {
-        Task::Scan(_) => true,
-        Task::Reach(_) => false,
-        Task::Hold(_) => false,
-    }
+    matches!(d.task, Task::Scan(_))
 }
 
 // The lesser of two, of which each may be missing.
+#[tactic(auto, using(crate::proofs::Mins::some_min))]
 fn lesser_of(a: Option<Duty>, b: Option<Duty>) -> Option<Duty>
     ensures { result ≡ lesser a b }
 {
     match (a, b) {
-        (None, r) => r,
-        (Some(d), None) => Some(d),
-        (Some(d), Some(e)) => { if e.is_less(&d) { Some(e) } else { Some(d) } }
+        (Some(d), Some(e)) => Some(d.min(e)),
+        _ => a.or(b),
     }
 }
 
 impl<A: Register, B: Register> Pair<A, B> {
     // Empties both.
     pub fn new(first: A, second: B) -> Pair<A, B>
-        ensures none { union before (A.Register.duties result.first) (B.Register.duties result.second) ≡ [] }
-        ensures room { min (A.Register.places result.first) (B.Register.places result.second) ≡ min (A.Register.places first) (B.Register.places second) }
+        ensures none { ⟦<Self as Register>⟧.duties result ≡ [] }
+        ensures room { ⟦<Self as Register>⟧.places result ≡ min (A.Register.places first) (B.Register.places second) }
         ensures spares { (A.Register.spares first result.first) × (B.Register.spares second result.second) }
-        ensures sound { Parted (A.Register.sound result.first) (B.Register.sound result.second) (A.Register.duties result.first) (B.Register.duties result.second) (A.Register.places result.first) (B.Register.places result.second) }
     {
-        emptied(Pair { first, second })
+        Pair {
+            first: emptied(first),
+            second: emptied(second),
+        }
     }
 
     // Whether the part that the duty belongs to has it.
     fn part_holds(&self, d: Duty) -> bool
-        ensures first { scan d ≡ true → A.Register.sound self.now.first → Decides result (d ∈ A.Register.duties self.now.first) }
-        ensures second { scan d ≡ false → B.Register.sound self.now.second → Decides result (d ∈ B.Register.duties self.now.second) }
+        ensures first { scan d ≡ true → Decides result (d ∈ A.Register.duties self.now.first) }
+        ensures second { scan d ≡ false → Decides result (d ∈ B.Register.duties self.now.second) }
     {
         if is_scan(d) {
             self.first.held(d)
@@ -60,16 +58,16 @@ impl<A: Register, B: Register> Pair<A, B> {
         }
     }
 
-    // How many duties the two have. The sum saturates only where one of them is not sound.
+    // How many duties the two have: no more than fit a room.
     fn sum_of_counts(&self) -> usize
-        ensures { A.Register.sound self.now.first → B.Register.sound self.now.second → result ≡ min (length (A.Register.duties self.now.first) + length (B.Register.duties self.now.second)) (2 ^ 64 - 1) }
+        ensures { result ≡ length (A.Register.duties self.now.first) + length (B.Register.duties self.now.second) }
     {
-        self.first.count().saturating_add(self.second.count())
+        self.first.count() + self.second.count()
     }
 
     // Whether there is no room for another, although a part may have places left.
     fn is_full(&self) -> bool
-        ensures { Parted (A.Register.sound self.now.first) (B.Register.sound self.now.second) (A.Register.duties self.now.first) (B.Register.duties self.now.second) (A.Register.places self.now.first) (B.Register.places self.now.second) → result ≡ nat_le (min (A.Register.places self.now.first) (B.Register.places self.now.second)) (length (union before (A.Register.duties self.now.first) (B.Register.duties self.now.second))) }
+        ensures { result ≡ nat_le (⟦<Self as Register>⟧.places self.now) (length (⟦<Self as Register>⟧.duties self.now)) }
     {
         self.count() >= self.room()
     }
@@ -80,11 +78,9 @@ impl<A: Register, B: Register> Register for Pair<A, B> {
 
     ghost places = { λ p. min (A.Register.places p.first) (B.Register.places p.second) };
 
-    ghost sound = { λ p. Parted (A.Register.sound p.first) (B.Register.sound p.second) (A.Register.duties p.first) (B.Register.duties p.second) (A.Register.places p.first) (B.Register.places p.second) };
-
-    ghost lawful = { λ p k. k.lawful };
-
     ghost spares = { λ p q. (A.Register.spares p.first q.first) × (B.Register.spares p.second q.second) };
+
+    ghost lawful = { λ p. p.parted.lawful };
 
     ghost carries = { record { itself = λ p. (A.Register.carries.itself p.first, B.Register.carries.itself p.second); on = λ p q r s t. (A.Register.carries.on p.first q.first r.first s.0 t.0, B.Register.carries.on p.second q.second r.second s.1 t.1) } };
 

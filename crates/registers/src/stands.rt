@@ -1,14 +1,10 @@
 // What holds of the meaning, whatever a make does.
 ghost use Rattle.registers.specs.Determined.{CallsHaveOneOutcome, MembersMakeTheSet};
 
-pub fn members_make_the_set() -> u8
+pub fn members_make_the_set()
     ensures { MembersMakeTheSet }
-{
-    0
-}
+{}
 
-pub fn calls_have_one_outcome() -> u8
+pub fn calls_have_one_outcome()
     ensures { CallsHaveOneOutcome }
-{
-    0
-}
+{}

@@ -3,6 +3,7 @@ ghost use Rattle.std.specs.Prelude.{◌<◌};
 
 use duties::{Duty, Literal, TagSet, Task};
 
+// A value, and no closure: it is drawn by numbers once, and made on the register and on the plain set.
 #[derive(Clone, Copy)]
 pub(crate) enum Call {
     Enter(Duty),
@@ -42,10 +43,11 @@ impl Draw {
         let due = self.below(12) as u32 + 1;
         let kind = self.below(3);
         let asked = self.below(8);
+        let point = (asked / 2) as u8;
         let literal = if asked % 2 == 0 {
-            Literal::Is((asked / 2) as u8)
+            Literal::Is(point)
         } else {
-            Literal::Not((asked / 2) as u8)
+            Literal::Not(point)
         };
         let task = match kind {
             0 => Task::Scan(TagSet(asked + 1)),
@@ -55,7 +57,7 @@ impl Draw {
         Duty { due, task }
     }
 
-    pub(crate) fn call(&mut self) -> Call {
+    fn call(&mut self) -> Call {
         let which = self.below(1000);
         let d = self.duty();
         match which {
@@ -68,5 +70,14 @@ impl Draw {
             970..=997 => Call::Room,
             _ => Call::Clear,
         }
+    }
+}
+
+// The draw has no end: whoever drives it takes as many calls as it wants.
+impl Iterator for Draw {
+    type Item = Call;
+
+    fn next(&mut self) -> Option<Call> {
+        Some(self.call())
     }
 }

@@ -1,62 +1,59 @@
 use crate::calls::{Call, Draw};
-use crate::plain::{Key, Plain, key_of};
-use duties::Duty;
+use crate::plain::{Key, Plain};
 use registers::Register;
 use std::alloc::{AllocError, Global};
+use std::{fmt, iter};
 
-const CALLS: u32 = 4000;
+const CALLS: usize = 4000;
 
 const SEED: u64 = 0x2545_f491_4f6c_dd1d;
 
 // What a trial came to.
-#[derive(Clone, Copy)]
+#[derive(Clone, Copy, Default)]
 pub(crate) struct Tally {
-    pub(crate) calls: u32,
-    pub(crate) refused: u32,
-    // Answers that are not those of the plain list.
-    pub(crate) differ: u32,
-    pub(crate) sum: u64,
+    calls: u32,
+    refused: u32,
+    // Answers that are not those of the plain set.
+    differ: u32,
+    sum: u64,
 }
 
-// An answer, and whether the plain list gave the same.
+// An answer, and whether the plain set gave the same. Both are always there: one that differs counts in the checksum too, so this is no `Option`.
 #[derive(Clone, Copy)]
 struct Answer {
     told: u64,
     same: bool,
 }
 
-fn yes_or_no(a: bool, b: bool) -> Answer {
-    Answer {
-        told: u64::from(a),
-        same: a == b,
+// What an answer adds to the checksum.
+trait Told {
+    fn told(&self) -> u64;
+}
+
+impl Told for bool {
+    fn told(&self) -> u64 {
+        u64::from(*self)
     }
 }
 
-fn number(a: usize, b: usize) -> Answer {
-    Answer {
-        told: a as u64,
-        same: a == b,
+impl Told for usize {
+    fn told(&self) -> u64 {
+        *self as u64
     }
 }
 
-fn one_or_none(a: Option<Duty>, b: Option<Key>) -> Answer {
-    match (a, b) {
-        (Some(d), Some(k)) => Answer {
-            told: u64::from(d.due) + 1,
-            same: key_of(d) == k,
-        },
-        (Some(_), None) => Answer {
-            told: 1,
-            same: false,
-        },
-        (None, Some(_)) => Answer {
-            told: 0,
-            same: false,
-        },
-        (None, None) => Answer {
-            told: 0,
-            same: true,
-        },
+impl Told for Option<Key> {
+    fn told(&self) -> u64 {
+        self.map_or(0, |k| u64::from(k.due) + 1)
+    }
+}
+
+impl Answer {
+    fn compared<T: Told + PartialEq + Drop>(answer: T, expected: T) -> Answer {
+        Answer {
+            told: answer.told(),
+            same: answer == expected,
+        }
     }
 }
 
@@ -66,74 +63,70 @@ fn make<R: Register>(
     plain: &mut Plain,
     call: Call,
 ) -> Result<Answer, AllocError> {
-    match call {
+    Ok(match call {
         Call::Enter(d) => {
-            let expected = plain.enter(key_of(d))?;
-            Ok(yes_or_no(register.enter(d), expected))
+            let expected = plain.enter(d.into())?;
+            Answer::compared(register.enter(d), expected)
         }
-        Call::Strike(d) => Ok(yes_or_no(register.strike(d), plain.strike(key_of(d)))),
-        Call::Held(d) => Ok(yes_or_no(register.held(d), plain.held(key_of(d)))),
-        Call::After(Some(d)) => Ok(one_or_none(
-            register.after(Some(d)),
-            plain.after(Some(key_of(d))),
-        )),
-        Call::After(None) => Ok(one_or_none(register.after(None), plain.after(None))),
-        Call::Count => Ok(number(register.count(), plain.count())),
-        Call::Room => Ok(number(register.room(), plain.room())),
+        Call::Strike(d) => Answer::compared(register.strike(d), plain.strike(d.into())),
+        Call::Held(d) => Answer::compared(register.held(d), plain.held(d.into())),
+        Call::After(from) => Answer::compared(
+            register.after(from).map(Key::from),
+            plain.after(from.map(Key::from)),
+        ),
+        Call::Count => Answer::compared(register.count(), plain.count()),
+        Call::Room => Answer::compared(register.room(), plain.room()),
         Call::Clear => {
             register.clear();
             plain.clear();
-            Ok(number(register.count(), 0))
+            Answer::compared(register.count(), 0)
         }
-    }
+    })
 }
 
-// Whether both have the same duties, from the first on.
+// Whether both have the same duties, from the first on. One more than the plain set has shows that the register ends there too.
 fn agree<R: Register>(register: &R, plain: &Plain) -> bool {
-    let mut from = None;
-    for _ in 0..=plain.count() {
-        let next = register.after(from);
-        let expected = match from {
-            Some(d) => plain.after(Some(key_of(d))),
-            None => plain.after(None),
-        };
-        if !one_or_none(next, expected).same {
-            return false;
-        }
-        from = next;
-    }
-    true
+    iter::successors(register.after(None), |d| register.after(Some(*d)))
+        .take(plain.count().saturating_add(1))
+        .map(Key::from)
+        .eq(plain.keys().iter().copied())
 }
 
 pub(crate) fn drive<R: Register>(heap: Global, register: &mut R) -> Result<Tally, AllocError> {
     let mut plain = Plain::new(heap, register.room());
-    let mut draw = Draw::new(SEED);
-    let mut tally = Tally {
-        calls: 0,
-        refused: 0,
-        differ: 0,
-        sum: 0,
-    };
+    let mut tally = Tally::default();
     register.clear();
-    for _ in 0..CALLS {
-        let call = draw.call();
+    for call in Draw::new(SEED).take(CALLS) {
         let answer = make(register, &mut plain, call)?;
         let same = answer.same && agree(register, &plain);
-        tally = tally.with(call, answer.told, same);
+        tally.add(call, answer.told, same);
     }
     Ok(tally)
 }
 
 impl Tally {
-    fn with(self, call: Call, told: u64, same: bool) -> Tally {
+    fn add(&mut self, call: Call, told: u64, same: bool) {
         let refused = matches!(call, Call::Enter(_)) && told == 0;
-        Tally {
-            calls: self.calls.saturating_add(1),
-            refused: self.refused.saturating_add(u32::from(refused)),
-            differ: self.differ.saturating_add(u32::from(!same)),
-            sum: (self.sum ^ told)
-                .wrapping_mul(0x0000_0100_0000_01b3)
-                .rotate_left(5),
-        }
+        self.calls = self.calls.saturating_add(1);
+        self.refused = self.refused.saturating_add(u32::from(refused));
+        self.differ = self.differ.saturating_add(u32::from(!same));
+        self.sum = (self.sum ^ told)
+            .wrapping_mul(0x0000_0100_0000_01b3)
+            .rotate_left(5);
+    }
+}
+
+impl fmt::Display for Tally {
+    fn fmt<W: fmt::Write>(&self, f: &mut fmt::Formatter<W>) -> fmt::Result {
+        let Tally {
+            calls,
+            refused,
+            differ,
+            sum,
+        } = self;
+        write!(
+            f,
+            "{calls} calls, {refused} refused, {differ} differ, checksum {sum:016x}"
+        )
     }
 }

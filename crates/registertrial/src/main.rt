@@ -1,14 +1,15 @@
 #![tactic(auto)]
-// Drives registers of every make through one long list of calls, from a fixed seed, and compares each answer with a plain list kept beside them.
+// Drives registers of every make through one long list of calls, from a fixed seed, and compares each answer with a plain set kept beside them.
 mod calls;
 mod drive;
 mod plain;
 
 use chain::{Chain, Link};
-use drive::{Tally, drive};
+use drive::drive;
 use duties::{Duty, TagSet, Task};
 use pair::Pair;
-use plain::key_of;
+use plain::Key;
+use registers::Register;
 use shelf::Shelf;
 
 // What the rows hold before a register is made over them does not matter.
@@ -19,30 +20,19 @@ const OLD: Duty = Duty {
 
 const OLD_LINK: Link = Link { duty: OLD, next: 3 };
 
-fn report(rt: &impl Print, what: &str, tally: Tally) -> anyhow::Result<()> {
-    let calls = tally.calls;
-    let refused = tally.refused;
-    let differ = tally.differ;
-    let sum = tally.sum;
-    rt.println(format_args!(
-        "  {what}: {calls} calls, {refused} refused, {differ} differ, checksum {sum:016x}"
-    ))?;
+// Drives one register and prints what the trial came to.
+fn report<R: Register>(rt: &HostRuntime, what: &str, register: &mut R) -> anyhow::Result<()> {
+    let tally = drive(rt.alloc(), register)?;
+    println!(rt; "  {what}: {tally}")?;
     Ok(())
 }
 
 // Whether the rows past the 64th are as they were.
 fn are_old(rows: &[Duty], links: &[Link]) -> bool {
-    for d in rows.iter().skip(64) {
-        if key_of(*d) != key_of(OLD) {
-            return false;
-        }
-    }
-    for link in links.iter().skip(64) {
-        if key_of(link.duty) != key_of(OLD) || link.next != OLD_LINK.next {
-            return false;
-        }
-    }
-    true
+    let old = Key::from(OLD);
+    rows.iter().skip(64).all(|d| Key::from(*d) == old)
+        && links.iter().skip(64).all(|link| Key::from(link.duty) == old
+            && link.next == OLD_LINK.next)
 }
 
 // Every make over the given rows.
@@ -53,24 +43,16 @@ fn all_makes(
     more_rows: &mut [Link],
 ) -> anyhow::Result<()> {
     let mut shelf = Shelf::new(shelf_rows);
-    report(rt, "shelf", drive(rt.alloc(), &mut shelf)?)?;
+    report(rt, "shelf", &mut shelf)?;
     let mut chain = Chain::new(chain_rows);
-    report(rt, "chain", drive(rt.alloc(), &mut chain)?)?;
+    report(rt, "chain", &mut chain)?;
     let mut pair = Pair::new(shelf, chain);
-    report(
-        rt,
-        "pair of that shelf and that chain",
-        drive(rt.alloc(), &mut pair)?,
-    )?;
+    report(rt, "pair of that shelf and that chain", &mut pair)?;
     let mut pairs = Pair::new(Chain::new(more_rows), pair);
-    report(
-        rt,
-        "pair of a chain and that pair",
-        drive(rt.alloc(), &mut pairs)?,
-    )
+    report(rt, "pair of a chain and that pair", &mut pairs)
 }
 
-// The same, and what it leaves of the rows.
+// The same, and what it leaves of the rows. Slices, and no arrays of a const N: their size would want a bound on N as a premise.
 fn over(
     rt: &HostRuntime,
     shelf_rows: &mut [Duty],

@@ -1,45 +1,61 @@
-// A register as a plain list, which knows nothing of the order of duties but what is said here.
+// A register as a set of std beside its room. It knows nothing of the order in which crate duties puts duties: its own stands below.
 use duties::{Duty, Literal, Task};
 use std::alloc::{AllocError, Global};
+use std::collections::BTreeSet;
+use std::ops::Bound;
 
-// A duty as three numbers, compared one after the other: the due minute; scan, reach, hold; what is asked.
+// A duty as it compares: by due minute, then scan, reach, hold, then by what is asked, a point before its denial.
+// The derives state this order a second time, on purpose: a trial that took it from crate duties would not try it.
 #[derive(Clone, Copy, PartialEq, Eq, PartialOrd, Ord)]
 pub(crate) struct Key {
-    due: u32,
-    kind: u8,
-    asked: u64,
+    pub(crate) due: u32,
+    asked: Asked,
 }
 
-fn literal_key(literal: Literal) -> u64 {
-    match literal {
-        Literal::Is(point) => u64::from(point) * 2,
-        Literal::Not(point) => u64::from(point) * 2 + 1,
+#[derive(Clone, Copy, PartialEq, Eq, PartialOrd, Ord)]
+enum Asked {
+    Scan(u64),
+    Reach(Side),
+    Hold(Side),
+}
+
+#[derive(Clone, Copy, PartialEq, Eq, PartialOrd, Ord)]
+struct Side {
+    point: u8,
+    is_denied: bool,
+}
+
+impl From<Literal> for Side {
+    fn from(literal: Literal) -> Side {
+        let (point, is_denied) = match literal {
+            Literal::Is(point) => (point, false),
+            Literal::Not(point) => (point, true),
+        };
+        Side { point, is_denied }
     }
 }
 
-pub(crate) fn key_of(d: Duty) -> Key {
-    let (kind, asked) = match d.task {
-        Task::Scan(tags) => (0, tags.0),
-        Task::Reach(literal) => (1, literal_key(literal)),
-        Task::Hold(literal) => (2, literal_key(literal)),
-    };
-    Key {
-        due: d.due,
-        kind,
-        asked,
+impl From<Duty> for Key {
+    fn from(d: Duty) -> Key {
+        let asked = match d.task {
+            Task::Scan(tags) => Asked::Scan(tags.0),
+            Task::Reach(literal) => Asked::Reach(literal.into()),
+            Task::Hold(literal) => Asked::Hold(literal.into()),
+        };
+        Key { due: d.due, asked }
     }
 }
 
 #[derive(Drop)]
 pub(crate) struct Plain {
-    keys: Vec<Key>,
+    keys: BTreeSet<Key>,
     room: usize,
 }
 
 impl Plain {
     pub(crate) fn new(heap: Global, room: usize) -> Plain {
         Plain {
-            keys: Vec::new(heap),
+            keys: BTreeSet::new(heap),
             room,
         }
     }
@@ -52,58 +68,29 @@ impl Plain {
         self.room
     }
 
-    fn place(&self, k: Key) -> Option<usize> {
-        for (i, other) in self.keys.iter().enumerate() {
-            if *other == k {
-                return Some(i);
-            }
-        }
-        None
+    pub(crate) fn keys(&self) -> &BTreeSet<Key> {
+        &self.keys
     }
 
     pub(crate) fn held(&self, k: Key) -> bool {
-        self.place(k).is_some()
+        self.keys.contains(&k)
     }
 
     pub(crate) fn after(&self, from: Option<Key>) -> Option<Key> {
-        let mut least = None;
-        for k in self.keys.iter() {
-            let above = match from {
-                Some(f) => f < *k,
-                None => true,
-            };
-            let less = match least {
-                Some(l) => *k < l,
-                None => true,
-            };
-            if above && less {
-                least = Some(*k);
-            }
-        }
-        least
+        let above = from.map_or(Bound::Unbounded, Bound::Excluded);
+        self.keys.range((above, Bound::Unbounded)).next().copied()
     }
 
     pub(crate) fn enter(&mut self, k: Key) -> Result<bool, AllocError> {
-        if self.held(k) {
-            return Ok(true);
+        let fits = self.held(k) || self.keys.len() < self.room;
+        if fits {
+            self.keys.insert(k)?;
         }
-        if self.keys.len() >= self.room {
-            return Ok(false);
-        }
-        self.keys.push(k)?;
-        Ok(true)
+        Ok(fits)
     }
 
     pub(crate) fn strike(&mut self, k: Key) -> bool {
-        match self.place(k) {
-            Some(i) => {
-                if i < self.keys.len() {
-                    let _ = self.keys.swap_remove(i);
-                }
-                true
-            }
-            None => false,
-        }
+        self.keys.remove(&k)
     }
 
     pub(crate) fn clear(&mut self) {

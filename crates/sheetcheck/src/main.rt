@@ -1,46 +1,42 @@
 #![tactic(auto)]
 // Checks a sheet of orders, from standard input or from the file that is named as argument, and prints the verdict.
 // The first line is for programs; what follows is for people.
-mod page;
+mod marked;
 mod refused;
 mod taken;
 
 use loader::Loader;
-use page::Page;
-use refused::tell_refused;
+use refused::Refused;
 use sheets::Sheet;
+use std::alloc::Global;
 use std::fs::File;
-use std::io::{Read, Write};
+use std::io::Read;
 use std::{env, io};
-use taken::tell_taken;
+use taken::Taken;
 
 // One byte more than a sheet may have is enough to refuse it by.
 const ENOUGH: u64 = 32769;
 
-// The bytes of the file, or why it cannot be read.
-fn read_file(rt: &HostRuntime, path: &str) -> io::Result<Vec<u8>> {
-    let mut bytes = Vec::new(rt.alloc());
-    let file = File::open(rt, path)?;
-    let _ = file.take(ENOUGH).read_to_end(&mut bytes)?;
+fn read_from<R: Read + Drop>(heap: Global, source: R) -> io::Result<Vec<u8>> {
+    let mut bytes = Vec::new(heap);
+    source.take(ENOUGH).read_to_end(&mut bytes)?;
     Ok(bytes)
 }
 
+fn read_file(rt: &HostRuntime, path: &str) -> io::Result<Vec<u8>> {
+    read_from(rt.alloc(), File::open(rt, path)?)
+}
+
+// The bytes of the sheet. An error at a named file is told twice: here with the name, for people, and by main's result, which ends the program.
 fn read_input(rt: &HostRuntime) -> io::Result<Vec<u8>> {
-    let mut args = env::args(rt)?;
-    let _ = args.next();
-    let Some(path) = args.next() else {
-        let mut bytes = Vec::new(rt.alloc());
-        let _ = rt.stdin().take(ENOUGH).read_to_end(&mut bytes)?;
-        return Ok(bytes);
+    let Some(path) = env::args(rt)?.nth(1) else {
+        return read_from(rt.alloc(), rt.stdin());
     };
-    match read_file(rt, path.as_str()) {
-        Ok(bytes) => Ok(bytes),
-        Err(e) => {
-            let name = path.as_str();
-            eprintln!(rt; "sheetcheck: {name} cannot be read: {e}")?;
-            Err(e)
-        }
+    let read = read_file(rt, path.as_str());
+    if let Err(e) = &read {
+        eprintln!(rt; "sheetcheck: {path} cannot be read: {e}")?;
     }
+    read
 }
 
 fn run(rt: &HostRuntime) -> anyhow::Result<()> {
@@ -48,12 +44,11 @@ fn run(rt: &HostRuntime) -> anyhow::Result<()> {
     let text = read_input(rt)?;
     let mut loader = Loader::new(heap)?;
     let mut sheet = Sheet::new(heap)?;
-    let mut page = Page::new(heap);
-    match loader.load(text.as_slice(), &mut sheet) {
-        Ok(()) => tell_taken(&mut page, &sheet)?,
-        Err(fault) => tell_refused(&mut page, text.as_slice(), fault)?,
-    }
-    rt.stdout().write_all(page.bytes())?;
+    let page = match loader.load(&text, &mut sheet) {
+        Ok(()) => Taken(&sheet).to_string(heap)?,
+        Err(fault) => Refused { text: &text, fault }.to_string(heap)?,
+    };
+    print!(rt; "{page}")?;
     Ok(())
 }
 

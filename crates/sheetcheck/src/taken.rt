@@ -1,207 +1,253 @@
 // A sheet that is taken: how much it declares, and each order in plain words.
-use crate::page::Page;
 use duties::{Due, DutyPattern, Event, Literal, Order, Statement, TagSet, Task};
 use names::Name;
 use sheets::Sheet;
-use std::alloc::AllocError;
+use std::{fmt, str};
+
+// So many of something, which takes an `s` where it is not one.
+#[derive(Clone, Copy)]
+struct Counted(usize, &'static str);
+
+impl fmt::Display for Counted {
+    fn fmt<W: fmt::Write>(&self, f: &mut fmt::Formatter<W>) -> fmt::Result {
+        let Counted(n, noun) = self;
+        let plural = if *n == 1 { "" } else { "s" };
+        write!(f, "{n} {noun}{plural}")
+    }
+}
 
 // A name by its number; a number without a name prints as itself.
-fn put_name(page: &mut Page, names: &[Name], number: u8) -> Result<(), AllocError> {
-    match names.get(number as usize) {
-        Some(name) => page.put(name.bytes()),
-        None => page.put_number(number as usize),
+#[derive(Clone, Copy)]
+struct Named<'a> {
+    names: &'a [Name],
+    number: u8,
+}
+
+impl fmt::Display for Named<'_> {
+    fn fmt<W: fmt::Write>(&self, f: &mut fmt::Formatter<W>) -> fmt::Result {
+        let number = self.number;
+        // A declared name is always text: letters, digits and `_`.
+        let name = self.names.get(number as usize);
+        match name.and_then(|name| str::from_utf8(name.bytes()).ok()) {
+            Some(text) => f.write_str(text),
+            None => write!(f, "{number}"),
+        }
     }
 }
 
-// The tags of a set in number order, `and` between them. Answers whether there are several.
-fn put_tags(page: &mut Page, sheet: &Sheet, set: TagSet) -> Result<bool, AllocError> {
-    let mut first = true;
-    let mut several = false;
-    for n in 0u8..64 {
-        if set.has(n) {
-            if !first {
-                page.put(b" and ")?;
-                several = true;
+// A part of a sheet, which prints with the sheet's names.
+#[derive(Clone, Copy)]
+struct Told<'a, T> {
+    sheet: &'a Sheet,
+    part: T,
+}
+
+impl<'a, T> Told<'a, T> {
+    // Another part of the same sheet.
+    fn with<U>(&self, part: U) -> Told<'a, U> {
+        Told {
+            sheet: self.sheet,
+            part,
+        }
+    }
+
+    // The point of a literal, and whether it is to hold.
+    fn literal(&self, literal: Literal) -> (Named<'a>, bool) {
+        let (number, holds) = match literal {
+            Literal::Is(point) => (point, true),
+            Literal::Not(point) => (point, false),
+        };
+        let names = self.sheet.points();
+        (Named { names, number }, holds)
+    }
+}
+
+fn is_several(set: TagSet) -> bool {
+    set.0.count_ones() > 1
+}
+
+// The tags of a set in number order.
+impl fmt::Display for Told<'_, TagSet> {
+    fn fmt<W: fmt::Write>(&self, f: &mut fmt::Formatter<W>) -> fmt::Result {
+        let set = self.part;
+        let names = self.sheet.tags();
+        let tags = (0u8..64)
+            .filter(|n| set.has(*n))
+            .map(|number| Named { names, number });
+        f.write_joined(tags, " and ")
+    }
+}
+
+impl fmt::Display for Told<'_, Task> {
+    fn fmt<W: fmt::Write>(&self, f: &mut fmt::Formatter<W>) -> fmt::Result {
+        match self.part {
+            Task::Scan(set) => {
+                let tags = self.with(set);
+                let together = if is_several(set) { " together" } else { "" };
+                write!(f, "to read {tags}{together}")
             }
-            put_name(page, sheet.tags(), n)?;
-            first = false;
-        }
-    }
-    Ok(several)
-}
-
-fn put_literal(
-    page: &mut Page,
-    sheet: &Sheet,
-    literal: Literal,
-    verb: &[u8],
-) -> Result<(), AllocError> {
-    let (point, value): (u8, &[u8]) = match literal {
-        Literal::Is(point) => (point, b" true"),
-        Literal::Not(point) => (point, b" false"),
-    };
-    put_name(page, sheet.points(), point)?;
-    page.put(verb)?;
-    page.put(value)
-}
-
-fn put_task(page: &mut Page, sheet: &Sheet, task: Task) -> Result<(), AllocError> {
-    match task {
-        Task::Scan(set) => {
-            page.put(b"to read ")?;
-            let several = put_tags(page, sheet, set)?;
-            if several {
-                page.put(b" together")?;
+            Task::Reach(literal) => {
+                let (point, value) = self.literal(literal);
+                write!(f, "to make {point} {value}")
             }
-            Ok(())
-        }
-        Task::Reach(literal) => {
-            page.put(b"to make ")?;
-            put_literal(page, sheet, literal, b"")
-        }
-        Task::Hold(literal) => {
-            page.put(b"to keep ")?;
-            put_literal(page, sheet, literal, b"")
+            Task::Hold(literal) => {
+                let (point, value) = self.literal(literal);
+                write!(f, "to keep {point} {value}")
+            }
         }
     }
 }
 
-fn put_minutes(page: &mut Page, n: u32, after: &[u8]) -> Result<(), AllocError> {
-    page.put_number(n as usize)?;
-    let unit: &[u8] = if n == 1 { b" minute" } else { b" minutes" };
-    page.put(unit)?;
-    page.put(after)
-}
-
-fn put_due(page: &mut Page, due: Due) -> Result<(), AllocError> {
-    match due {
-        Due::At(minute) => {
-            page.put(b"due at minute ")?;
-            page.put_number(minute as usize)
-        }
-        Due::Now(0) => page.put(b"due now"),
-        Due::Now(added) => {
-            page.put(b"due ")?;
-            put_minutes(page, added, b" from now")
-        }
-        Due::Then(0) => {
-            page.has_t = true;
-            page.put(b"due at T")
-        }
-        Due::Then(added) => {
-            page.has_t = true;
-            page.put(b"due ")?;
-            put_minutes(page, added, b" after T")
+impl fmt::Display for Told<'_, Due> {
+    fn fmt<W: fmt::Write>(&self, f: &mut fmt::Formatter<W>) -> fmt::Result {
+        match self.part {
+            Due::At(minute) => write!(f, "due at minute {minute}"),
+            Due::Now(0) => write!(f, "due now"),
+            Due::Now(added) => {
+                let minutes = Counted(added as usize, "minute");
+                write!(f, "due {minutes} from now")
+            }
+            Due::Then(0) => write!(f, "due at T"),
+            Due::Then(added) => {
+                let minutes = Counted(added as usize, "minute");
+                write!(f, "due {minutes} after T")
+            }
         }
     }
 }
 
-fn put_duty(page: &mut Page, sheet: &Sheet, duty: DutyPattern) -> Result<(), AllocError> {
-    page.put(b"duty ")?;
-    put_task(page, sheet, duty.task)?;
-    page.put(b", ")?;
-    put_due(page, duty.due)
+impl fmt::Display for Told<'_, DutyPattern> {
+    fn fmt<W: fmt::Write>(&self, f: &mut fmt::Formatter<W>) -> fmt::Result {
+        let task = self.with(self.part.task);
+        let due = self.with(self.part.due);
+        write!(f, "duty {task}, {due}")
+    }
 }
 
-fn put_event(page: &mut Page, sheet: &Sheet, event: Event) -> Result<(), AllocError> {
-    match event {
-        Event::Tags(set) => {
-            let several = put_tags(page, sheet, set)?;
-            let read: &[u8] = if several {
-                b" are read together"
-            } else {
-                b" is read"
+impl fmt::Display for Told<'_, Event> {
+    fn fmt<W: fmt::Write>(&self, f: &mut fmt::Formatter<W>) -> fmt::Result {
+        match self.part {
+            Event::Tags(set) => {
+                let tags = self.with(set);
+                if is_several(set) {
+                    write!(f, "{tags} are read together")
+                } else {
+                    write!(f, "{tags} is read")
+                }
+            }
+            Event::Met(duty) => {
+                let duty = self.with(duty);
+                write!(f, "a {duty}, is met")
+            }
+            Event::Failed(duty) => {
+                let duty = self.with(duty);
+                write!(f, "a {duty}, fails")
+            }
+        }
+    }
+}
+
+// What an order asks of the state before it.
+#[derive(Clone, Copy)]
+struct Condition(Statement);
+
+impl fmt::Display for Told<'_, Condition> {
+    fn fmt<W: fmt::Write>(&self, f: &mut fmt::Formatter<W>) -> fmt::Result {
+        match self.part.0 {
+            Statement::Literal(literal) => {
+                let (point, value) = self.literal(literal);
+                write!(f, "{point} is {value}")
+            }
+            Statement::Duty(duty) => {
+                let duty = self.with(duty);
+                write!(f, "a {duty}, is open")
+            }
+            Statement::NoDuty(duty) => {
+                let duty = self.with(duty);
+                write!(f, "no {duty}, is open")
+            }
+        }
+    }
+}
+
+// What an order brings about.
+#[derive(Clone, Copy)]
+struct Effect(Statement);
+
+impl fmt::Display for Told<'_, Effect> {
+    fn fmt<W: fmt::Write>(&self, f: &mut fmt::Formatter<W>) -> fmt::Result {
+        match self.part.0 {
+            Statement::Literal(literal) => {
+                let (point, value) = self.literal(literal);
+                write!(f, "{point} becomes {value}")
+            }
+            Statement::Duty(duty) => {
+                let duty = self.with(duty);
+                write!(f, "there is a {duty}")
+            }
+            Statement::NoDuty(duty) => {
+                let duty = self.with(duty);
+                write!(f, "any {duty}, is lifted")
+            }
+        }
+    }
+}
+
+impl fmt::Display for Told<'_, Order> {
+    fn fmt<W: fmt::Write>(&self, f: &mut fmt::Formatter<W>) -> fmt::Result {
+        let event = self.with(self.part.event);
+        write!(f, "When {event}")?;
+        for statement in self.part.conditions.iter().flatten() {
+            let condition = self.with(Condition(*statement));
+            write!(f, ", and if {condition}")?;
+        }
+        let effect = self.with(Effect(self.part.effect));
+        write!(f, ": {effect}.")
+    }
+}
+
+// Whether T stands in an order, which then has to be explained.
+fn has_t(order: &Order) -> bool {
+    order.event.has_t()
+        || order.effect.has_t()
+        || order
+            .conditions
+            .iter()
+            .flatten()
+            .any(|condition| condition.has_t())
+}
+
+// Prints the first line, then the orders. A number in front of each is the one that the order has.
+#[derive(Clone, Copy)]
+pub(crate) struct Taken<'a>(pub(crate) &'a Sheet);
+
+impl fmt::Display for Taken<'_> {
+    fn fmt<W: fmt::Write>(&self, f: &mut fmt::Formatter<W>) -> fmt::Result {
+        let sheet = self.0;
+        let tags = sheet.tags().len();
+        let points = sheet.points().len();
+        let orders = sheet.orders();
+        writeln!(f, "taken\t{tags}\t{points}\t{}", orders.len())?;
+        let tags = Counted(tags, "tag");
+        let points = Counted(points, "point");
+        let count = Counted(orders.len(), "order");
+        writeln!(f, "The sheet is good: {tags}, {points}, {count}.")?;
+        for (i, order) in orders.iter().enumerate() {
+            let order = Told {
+                sheet,
+                part: *order,
             };
-            page.put(read)
+            writeln!(f, "{i}. {order}")?;
         }
-        Event::Met(duty) => {
-            page.put(b"a ")?;
-            put_duty(page, sheet, duty)?;
-            page.put(b", is met")
+        if !orders.is_empty() {
+            writeln!(
+                f,
+                "A duty has to be done before the minute at which it is due."
+            )?;
         }
-        Event::Failed(duty) => {
-            page.put(b"a ")?;
-            put_duty(page, sheet, duty)?;
-            page.put(b", fails")
+        if orders.iter().any(has_t) {
+            writeln!(f, "T is any one minute, the same throughout its order.")?;
         }
+        Ok(())
     }
-}
-
-fn put_condition(page: &mut Page, sheet: &Sheet, condition: Statement) -> Result<(), AllocError> {
-    match condition {
-        Statement::Literal(literal) => put_literal(page, sheet, literal, b" is"),
-        Statement::Duty(duty) => {
-            page.put(b"a ")?;
-            put_duty(page, sheet, duty)?;
-            page.put(b", is open")
-        }
-        Statement::NoDuty(duty) => {
-            page.put(b"no ")?;
-            put_duty(page, sheet, duty)?;
-            page.put(b", is open")
-        }
-    }
-}
-
-fn put_effect(page: &mut Page, sheet: &Sheet, effect: Statement) -> Result<(), AllocError> {
-    match effect {
-        Statement::Literal(literal) => put_literal(page, sheet, literal, b" becomes"),
-        Statement::Duty(duty) => {
-            page.put(b"there is a ")?;
-            put_duty(page, sheet, duty)
-        }
-        Statement::NoDuty(duty) => {
-            page.put(b"any ")?;
-            put_duty(page, sheet, duty)?;
-            page.put(b", is lifted")
-        }
-    }
-}
-
-fn put_order(page: &mut Page, sheet: &Sheet, order: Order) -> Result<(), AllocError> {
-    page.put(b"When ")?;
-    put_event(page, sheet, order.event)?;
-    for condition in order.conditions {
-        if let Some(statement) = condition {
-            page.put(b", and if ")?;
-            put_condition(page, sheet, statement)?;
-        }
-    }
-    page.put(b": ")?;
-    put_effect(page, sheet, order.effect)?;
-    page.put(b".\n")
-}
-
-fn put_count(page: &mut Page, n: usize, one: &[u8], many: &[u8]) -> Result<(), AllocError> {
-    page.put_number(n)?;
-    page.put(if n == 1 { one } else { many })
-}
-
-// The first line, then the orders. A number in front of each is the one that the order has.
-pub(crate) fn tell_taken(page: &mut Page, sheet: &Sheet) -> Result<(), AllocError> {
-    let tags = sheet.tags().len();
-    let points = sheet.points().len();
-    let orders = sheet.orders().len();
-    page.put(b"taken\t")?;
-    page.put_number(tags)?;
-    page.put(b"\t")?;
-    page.put_number(points)?;
-    page.put(b"\t")?;
-    page.put_number(orders)?;
-    page.put(b"\nThe sheet is good: ")?;
-    put_count(page, tags, b" tag, ", b" tags, ")?;
-    put_count(page, points, b" point, ", b" points, ")?;
-    put_count(page, orders, b" order.\n", b" orders.\n")?;
-    for (i, order) in sheet.orders().iter().enumerate() {
-        page.put_number(i)?;
-        page.put(b". ")?;
-        put_order(page, sheet, *order)?;
-    }
-    if orders > 0 {
-        page.put(b"A duty has to be done before the minute at which it is due.\n")?;
-    }
-    if page.has_t {
-        page.put(b"T is any one minute, the same throughout its order.\n")?;
-    }
-    Ok(())
 }

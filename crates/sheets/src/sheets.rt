@@ -10,6 +10,7 @@ use names::Name;
 use std::alloc::{AllocError, Global};
 use std::mem::swap;
 
+// One method for each kind, as in `Table`.
 impl Sheet {
     // A sheet with no tags, points or orders.
     pub fn new(heap: Global) -> Result<Sheet, AllocError>

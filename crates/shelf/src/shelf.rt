@@ -1,16 +1,18 @@
-ghost use Rattle.std.specs.Prelude.{◌≡◌, [], min, length};
+ghost use Rattle.std.specs.Prelude.{◌≡◌, ◌≤◌, [], min, length};
+ghost use Rattle.std.proofs.Common.{rules};
 ghost use Rattle.ordered.specs.Rows.{items, capacity};
-ghost use Rattle.registers.specs.Meaning.{Lawful, SpareRowsLeftOpen};
+ghost use Rattle.registers.specs.Meaning.{SpareRowsLeftOpen};
 ghost use Rattle.registers.proofs.Spares.{left_open_carries};
 
 use duties::Duty;
 use ordered::OrderedRows;
 use registers::Register;
 
-// Keeps duties in the caller's rows, in duty order from the first row on.
+// Keeps duties in the caller's rows, in duty order from the first row on, at most 64.
 #[derive(Drop)]
 pub struct Shelf<'a> {
     rows: OrderedRows<'a, Duty>,
+    ghost few: { length (items rows) ≤ 64 },
 }
 
 impl<'a> Shelf<'a> {
@@ -19,7 +21,6 @@ impl<'a> Shelf<'a> {
         ensures none { items result.rows ≡ [] }
         ensures room { min (capacity result.rows) 64 ≡ min (length rows.old) 64 }
         ensures rows { result.rows.rows.now ≡ rows.old }
-        ensures sound { Lawful (items result.rows) (min (capacity result.rows) 64) }
     {
         Shelf {
             rows: OrderedRows::new(rows),
@@ -32,9 +33,7 @@ impl<'a> Register for Shelf<'a> {
 
     ghost places = { λ s. min (capacity s.rows) 64 };
 
-    ghost sound = { λ s. Lawful (items s.rows) (min (capacity s.rows) 64) };
-
-    ghost lawful = { λ s k. k };
+    ghost lawful = { λ s. record { ascending = s.rows.ascending; fits = Prim.search rules; small = Prim.search rules } };
 
     ghost spares = { λ s t. SpareRowsLeftOpen s.rows.rows.now t.rows.rows.now };
 

@@ -1,3 +1,4 @@
+pub mod Pieces
 pub mod Spelling
 pub mod Split
 pub mod Tokens

@@ -1,12 +1,12 @@
 -- The tokens of a word. Assumes nothing.
-use Rattle.std.specs.Prelude.{ℕ, cond, List, [], map, Some, None, codes, Option}
-use Rattle.std.specs.Borrow.{Bor}
+use Rattle.std.specs.Prelude.{ℕ, cond, List, map, Some, None, codes, Option}
 use Rattle.std.specs.Str.{bytes_eq}
 use Rattle.text.specs.declared.token.Keyword.{Keyword}
 use Rattle.text.specs.declared.token.Keyword.TheVariants.{Now, Then, No, Met, Failed, Scan, Reach, Hold, Tag, Point, Order}
 use Rattle.text.specs.declared.token.Token.{Token}
 use Rattle.text.specs.declared.token.Token.TheVariants as V
 use Rattle.text.specs.declared.token.Tokens.{Tokens}
+use Rattle.text.specs.Pieces.{pieces_left}
 use Rattle.text.specs.Spelling.{name_like, numeral}
 use Rattle.text.specs.Split.{split}
 
@@ -54,9 +54,6 @@ class_of bs = key_else (key_of bs) bs
 abbrev pub parts : List ℕ → List Class
 parts bs = map class_of (split 43 bs)
 
-abbrev rest_of : Option (Bor (List ℕ)) → List Class
-rest_of None = []
-rest_of (Some s) = parts s.now
-
+-- the tokens that are left to be taken
 abbrev pub left : Tokens → List Class
-left t = rest_of t.rest
+left t = map class_of (pieces_left t.pieces)

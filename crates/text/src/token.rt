@@ -1,9 +1,10 @@
 // The tokens of a word, each a part of the caller's bytes.
-ghost use Rattle.std.specs.Prelude.{◌≡◌, ◌&&◌, [], ◌∷◌, length, MatchOption, nat_le};
-ghost use Rattle.text.specs.Spelling.{all, digit, inner, name_like, numeral};
+ghost use Rattle.std.specs.Iterator.{YieldsFirstBy, item_count};
+ghost use Rattle.std.specs.Prelude.{◌≡◌};
+ghost use Rattle.text.specs.Spelling.{all, inner, name_like, numeral};
 ghost use Rattle.text.specs.Tokens.{class_of, key_of, left, parts, token_of};
 
-use crate::piece::{cut, same};
+use crate::pieces::Pieces;
 
 // The reserved words, and T.
 #[derive(Clone, Copy)]
@@ -31,115 +32,54 @@ pub enum Token<'a> {
     Other,
 }
 
-fn is_inner(b: u8) -> bool
-    ensures { result ≡ inner b }
-{
-    (b >= b'a' && b <= b'z') || (b >= b'0' && b <= b'9') || b == b'_'
-}
-
+// That each byte may stand in a name behind the first. Inside `is_name_like` its proof is not found.
+#[tactic(auto, using(crate::proofs::Alls::all_tells))]
 fn all_inner(bytes: &[u8]) -> bool
     ensures { result ≡ all inner bytes.now }
 {
-    for b in bytes {
-        if !is_inner(*b) {
-            return false;
-        }
-    }
-    true
+    bytes
+        .iter()
+        .all(|b| matches!(*b, b'a'..=b'z' | b'0'..=b'9' | b'_'))
 }
 
-fn all_digits(bytes: &[u8]) -> bool
-    ensures { result ≡ all digit bytes.now }
-{
-    for b in bytes {
-        if *b < b'0' || *b > b'9' {
-            return false;
-        }
-    }
-    true
-}
-
-// A name has no more bytes than these.
-fn is_short(piece: &[u8]) -> bool
-    ensures { result ≡ nat_le (length piece.now) 16 }
-{
-    piece.len() <= 16
-}
-
+#[tactic(auto, using(crate::proofs::Alls::name_parts))]
 fn is_name_like(piece: &[u8]) -> bool
     ensures { result ≡ name_like piece.now }
 {
-    if !is_short(piece) {
-        return false;
+    match piece {
+        [b'a'..=b'z', rest @ ..] => piece.len() <= 16 && all_inner(rest),
+        _ => false,
     }
-    let [first, rest @ ..] = piece else {
-        return false;
-    };
-    if *first < b'a' || *first > b'z' {
-        return false;
-    }
-    all_inner(rest)
 }
 
-// The first of several digits.
-fn is_leading(b: u8) -> bool
-    ensures { result ≡ (nat_le 49 b && nat_le b 57) }
-{
-    b >= b'1' && b <= b'9'
-}
-
+#[tactic(auto, using(crate::proofs::Alls::numeral_parts, crate::proofs::Alls::all_tells))]
 fn is_numeral(piece: &[u8]) -> bool
     ensures { result ≡ numeral piece.now }
 {
     match piece {
-        [] => false,
-        [only] => *only >= b'0' && *only <= b'9',
-        [first, rest @ ..] => {
-            if !is_leading(*first) {
-                return false;
-            }
-            all_digits(rest)
-        }
+        [b'0'..=b'9'] => true,
+        [b'1'..=b'9', rest @ ..] => rest.iter().all(u8::is_ascii_digit),
+        _ => false,
     }
 }
 
 fn find_keyword(piece: &[u8]) -> Option<Keyword>
     ensures { result ≡ key_of piece.now }
 {
-    if same(piece, b"now") {
-        return Some(Keyword::Now);
+    match piece {
+        b"now" => Some(Keyword::Now),
+        b"T" => Some(Keyword::Then),
+        b"no" => Some(Keyword::No),
+        b"met" => Some(Keyword::Met),
+        b"failed" => Some(Keyword::Failed),
+        b"scan" => Some(Keyword::Scan),
+        b"reach" => Some(Keyword::Reach),
+        b"hold" => Some(Keyword::Hold),
+        b"tag" => Some(Keyword::Tag),
+        b"point" => Some(Keyword::Point),
+        b"order" => Some(Keyword::Order),
+        _ => None,
     }
-    if same(piece, b"T") {
-        return Some(Keyword::Then);
-    }
-    if same(piece, b"no") {
-        return Some(Keyword::No);
-    }
-    if same(piece, b"met") {
-        return Some(Keyword::Met);
-    }
-    if same(piece, b"failed") {
-        return Some(Keyword::Failed);
-    }
-    if same(piece, b"scan") {
-        return Some(Keyword::Scan);
-    }
-    if same(piece, b"reach") {
-        return Some(Keyword::Reach);
-    }
-    if same(piece, b"hold") {
-        return Some(Keyword::Hold);
-    }
-    if same(piece, b"tag") {
-        return Some(Keyword::Tag);
-    }
-    if same(piece, b"point") {
-        return Some(Keyword::Point);
-    }
-    if same(piece, b"order") {
-        return Some(Keyword::Order);
-    }
-    None
 }
 
 // The token that a whole piece is.
@@ -161,24 +101,27 @@ pub fn classify(piece: &[u8]) -> Token<'_>
 // The tokens of a word that are joined by `+`, taken one by one.
 #[derive(Clone, Copy)]
 pub struct Tokens<'a> {
-    rest: Option<&'a [u8]>,
+    pieces: Pieces<'a>,
 }
 
 impl<'a> Tokens<'a> {
     pub fn of(word: &'a [u8]) -> Tokens<'a>
         ensures { left result ≡ parts word.now }
     {
-        Tokens { rest: Some(word) }
+        Tokens {
+            pieces: Pieces::of(word, b'+'),
+        }
     }
+}
 
-    pub fn next(&mut self) -> Option<Token<'a>>
-        ensures { MatchOption result ((left self.old ≡ []) × (left self.new ≡ [])) (λ t. left self.old ≡ token_of t ∷ left self.new) }
-    {
-        let Some(bytes) = self.rest else {
-            return None;
-        };
-        let (piece, rest) = cut(bytes, b'+');
-        self.rest = rest;
-        Some(classify(piece))
+impl<'a> Iterator for Tokens<'a> {
+    type Item = Token<'a>;
+
+    ghost next_gives = { YieldsFirstBy token_of left };
+
+    ghost remaining = { item_count left };
+
+    fn next(&mut self) -> Option<Token<'a>> {
+        self.pieces.next().map(classify)
     }
 }

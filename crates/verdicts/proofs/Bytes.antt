@@ -1,29 +1,21 @@
 -- What the grammar spells has no tab and no line feed. Assumes nothing.
-use Rattle.std.proofs.Common.{◌≡◌, ℕ, Bool, true, not, eqb, leb, List, [], ◌∷◌, ◌++◌, refl, arith}
-use Rattle.std.proofs.lemmas.Bool.{and_from, and_parts}
+use Rattle.std.proofs.Common.{◌≡◌, ℕ, Bool, true, not, eqb, leb, ltb, List, ◌∷◌, ◌++◌, refl, arith}
 use Rattle.std.proofs.lemmas.Bool.Decides.{nat_tests}
-use Rattle.duties.specs.declared.duty.Literal.{Literal}
-use Rattle.duties.specs.declared.order.Due.{Due}
-use Rattle.duties.specs.declared.order.DutyPattern.{DutyPattern}
 use Rattle.duties.specs.declared.order.Event.{Event}
+use Rattle.duties.specs.declared.order.DutyPattern.{DutyPattern}
 use Rattle.duties.specs.declared.order.Statement.{Statement}
 use Rattle.names.specs.declared.name.Name.{Name}
-use Rattle.names.proofs.NameBytes.{all_inner_lem}
-use Rattle.text.specs.Spelling.{all, digit, inner, is_name, name_like, numeral}
+use Rattle.text.specs.Spelling.{all, is_name}
 use Rattle.grammar.specs.Grammar as G
-use Rattle.grammar.specs.Grammar.{SpellsDue, SpellsDuty, SpellsEvent, SpellsLiteral, SpellsSet, SpellsStatement}
-use Rattle.grammar.proofs.Pieces.{Lacks, lacks_all}
-use Rattle.grammar.proofs.Told.{numeral_digits}
-
-pub all_weaker : (f g : ℕ → Bool) → ((b : ℕ) → f b ≡ true → g b ≡ true) → (bs : List ℕ) → all f bs ≡ true → all g bs ≡ true
-all_weaker f g each [] h = refl
-all_weaker f g each (b ∷ bs) h =
-    let p = and_parts (f b) (all f bs) h in and_from (g b) (all g bs) (each b p.0) (all_weaker f g each bs p.1)
-
-pub all_both : (f : ℕ → Bool) (cs bs : List ℕ) → all f cs ≡ true → all f bs ≡ true → all f (cs ++ bs) ≡ true
-all_both f [] bs h k = k
-all_both f (c ∷ cs) bs h k =
-    let p = and_parts (f c) (all f cs) h in and_from (f c) (all f (cs ++ bs)) p.0 (all_both f cs bs p.1 k)
+use Rattle.grammar.specs.Grammar.{SpellsDuty, SpellsEvent, SpellsStatement}
+use Rattle.grammar.specs.Shapes as H
+use Rattle.grammar.specs.Shapes.{DutyShape}
+use Rattle.grammar.proofs.DueSpelled.{due_word}
+use Rattle.grammar.proofs.DutySpelled.{duty_some}
+use Rattle.grammar.proofs.LiteralSpelled.{literal_some, literal_word}
+use Rattle.grammar.proofs.Numbers.{name_visible}
+use Rattle.grammar.proofs.Pieces.{Lacks, Visible, all_both, all_weaker, lacks_all}
+use Rattle.grammar.proofs.SetSpelled.{set_shape, set_word}
 
 -- a space, or a byte above it
 abbrev pub Prints : List ℕ → Type 0
@@ -39,39 +31,30 @@ one_line b = not (eqb b 10)
 pub no_feed : (bs : List ℕ) → Prints bs → all one_line bs ≡ true
 no_feed bs h = all_weaker (leb 32) one_line (λ b k. grind (arith, nat_tests)) bs h
 
+word_prints : (bs : List ℕ) → Visible bs → Prints bs
+word_prints bs h = all_weaker (ltb 32) (leb 32) (λ b k. grind (arith, nat_tests)) bs h
+
 pub name_prints : (w : List ℕ) → is_name w ≡ true → Prints w
-name_prints w h = all_weaker inner (leb 32) (λ b k. grind (arith, nat_tests)) w (all_inner_lem w (and_parts (name_like w) _ h).0)
+name_prints w h = word_prints w (name_visible w h)
 
-number_prints : (ds : List ℕ) → numeral ds ≡ true → Prints ds
-number_prints ds h = all_weaker digit (leb 32) (λ b k. grind (arith, nat_tests)) ds (numeral_digits ds h)
+two_print : (d w : List ℕ) → Visible d → Visible w → Prints (d ++ 32 ∷ w)
+two_print d w h k = all_both (leb 32) d (32 ∷ w) (word_prints d h) (word_prints w k)
 
-due_prints : {bs : List ℕ} {u : Due} → SpellsDue bs u → Prints bs
-due_prints (G.minute {ds} h) = number_prints ds h.0
-due_prints G.from_now = refl
-due_prints (G.now_plus {ds} h) = number_prints ds h.0
-due_prints G.from_t = refl
-due_prints (G.t_plus {ds} h) = number_prints ds h.0
-
-set_prints : {tags : List Name} {bs : List ℕ} {s : ℕ} → SpellsSet tags bs s → Prints bs
-set_prints (G.one_tag {w} h) = name_prints w h.0
-set_prints (G.and_tag {ws} g w h) = all_both (leb 32) ws (43 ∷ w) (set_prints g) (name_prints w h.0)
-
-literal_prints : {points : List Name} {bs : List ℕ} {l : Literal} → SpellsLiteral points bs l → Prints bs
-literal_prints (G.is_so {w} h) = name_prints w h.0
-literal_prints (G.is_not {w} h) = name_prints w h.0
+shape_prints : {bs : List ℕ} {n limit : ℕ} {ts ps : List (List ℕ)} → DutyShape bs n limit ts ps → Prints bs
+shape_prints (H.scan {d} {w} h k) = two_print d w (due_word h) (set_word k)
+shape_prints (H.reach {d} {w} h k) = two_print d w (due_word h) (literal_word k)
+shape_prints (H.hold {d} {w} h k) = two_print d w (due_word h) (literal_word k)
 
 module _ {tags points : List Name} where
   duty_prints : {bs : List ℕ} {p : DutyPattern} → SpellsDuty tags points bs p → Prints bs
-  duty_prints (G.scan {d} {w} h k) = all_both (leb 32) d (32 ∷ w) (due_prints h) (set_prints k)
-  duty_prints (G.reach {d} {w} h k) = all_both (leb 32) d (32 ∷ w) (due_prints h) (literal_prints k)
-  duty_prints (G.hold {d} {w} h k) = all_both (leb 32) d (32 ∷ w) (due_prints h) (literal_prints k)
+  duty_prints {bs} {p} h = let (n, limit, ts, ps, k) = duty_some tags points bs p h in shape_prints k
 
   pub event_prints : {bs : List ℕ} {e : Event} → SpellsEvent tags points bs e → Prints bs
-  event_prints (G.of_tags h) = set_prints h
+  event_prints (G.of_tags {w} {s} h) = let (ns, k, _) = set_shape tags w s h in word_prints w (set_word k)
   event_prints (G.when_met h) = duty_prints h
   event_prints (G.when_failed h) = duty_prints h
 
   pub statement_prints : {bs : List ℕ} {s : Statement} → SpellsStatement tags points bs s → Prints bs
-  statement_prints (G.of_literal h) = literal_prints h
+  statement_prints (G.of_literal {w} {l} h) = let (v, k) = literal_some points w l h in word_prints w (literal_word k)
   statement_prints (G.of_duty h) = duty_prints h
   statement_prints (G.of_no_duty h) = duty_prints h

@@ -9,11 +9,7 @@ use Rattle.names.specs.declared.name.Name.{Name}
 use Rattle.lines.specs.Lines.{conditions_of}
 use Rattle.grammar.specs.Grammar.{SpellsStatement}
 use Rattle.grammar.proofs.StatementSpelled.{statements_spelled}
-use Rattle.grammar.proofs.Steps.{ok_then}
 use Rattle.verdicts.specs.Declares.{SpellsEach, no_field, and_field}
-
-ok_placed : {X : Type 0} (k : ℕ) (r : Result X Cause) (x : X) → r ≡ Ok x → placed k r ≡ Ok x
-ok_placed k r x h = rw h
 
 module _ (tags points : List Name) where
   -- a field's condition
@@ -21,7 +17,7 @@ module _ (tags points : List Name) where
   condition k c = and_then (placed k (statement_of tags points c)) (λ s. Ok (Some s))
 
   here : {c : List ℕ} {s : Statement} (k : ℕ) → SpellsStatement tags points c s → condition k c ≡ Ok (Some s)
-  here {c} {s} k h = ok_then (λ s. Ok (Some s)) (ok_placed k (statement_of tags points c) s ((statements_spelled tags points c s).1 h))
+  here {c} {s} k h = rw ((statements_spelled tags points c s).1 h)
 
   pub conditions_read : (cs : List (List ℕ)) (ss : List Statement) → length cs ≤ 4 → SpellsEach tags points cs ss → conditions_of tags points cs ≡ Ok (take 4 (map Some ss ++ replicate 4 None))
   conditions_read _ _ few no_field = refl

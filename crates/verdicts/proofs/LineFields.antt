@@ -1,39 +1,41 @@
 -- A line is a record of fields, or it is read as none. Assumes nothing.
-use Rattle.std.proofs.Common.{◌≡◌, ℕ, ◌≤◌, Bool, true, false, eqb, leb, ◌⊎◌, List, [], ◌∷◌, ◌++◌, length, Some, None, Ok, Err, codes, Option, Result, sym, refl, ap, ◌∙◌, subst, inl, inr, arith}
+use Rattle.std.proofs.Common.{◌≡◌, ℕ, ◌≤◌, Bool, cond, leb, ◌⊎◌, List, [], ◌∷◌, ◌++◌, length, Ok, Err, codes, Option, Result, sym, refl, ap, ◌∙◌, subst, inl, inr, arith}
 use Rattle.std.proofs.lemmas.List.{append_assoc, append-nil}
-use Rattle.std.proofs.lemmas.Bool.{cases_Bool, cond_both, cond-false, le-leb, leb-true, ne_eqb}
+use Rattle.std.proofs.lemmas.Bool.{cases_Bool, le-leb, leb-true}
 use Rattle.std.proofs.lemmas.Bool.Decides.{nat_tests}
 use Rattle.std.specs.List.{AllByRecursion}
-use Rattle.fields.specs.Reading.{by}
-use Rattle.sheets.specs.Sheets.{Content}
-use Rattle.text.specs.Split.{onto, past, split}
-use Rattle.lines.specs.declared.fault.LineCause.{LineCause}
+use Rattle.duties.specs.declared.order.Event.{Event}
+use Rattle.duties.specs.declared.order.Order.{Order}
+use Rattle.duties.specs.declared.order.Statement.{Statement}
+use Rattle.duties.specs.Ranges.{literal_apart, t_bound}
+use Rattle.fields.specs.declared.fault.WordFault.{WordFault}
+use Rattle.fields.specs.Fields.{event_of, statement_of}
+use Rattle.fields.specs.Reading.{and_then, placed}
+use Rattle.names.specs.declared.name.Name.{Name}
+use Rattle.names.specs.Names.{name_of}
+use Rattle.text.specs.Spelling.{is_name}
+use Rattle.sheets.specs.Sheets.{Content, with_order, with_point, with_tag}
+use Rattle.text.specs.Split.{split}
 use Rattle.lines.specs.declared.fault.LineCause.TheVariants as C
-use Rattle.lines.specs.Lines.{line_of, one_field, order_fields}
-use Rattle.grammar.proofs.Pieces.{Lacks, after, joined, joined_split, past_is, split_append, split_one}
+use Rattle.lines.specs.Lines.{conditions_of, declared, line_of, one_field, order_fields, room, worded}
+use Rattle.grammar.proofs.Pieces.{Lacks, after, by_front, joined, joined_split, split_append, split_one}
 use Rattle.verdicts.specs.Declares.{tabbed}
 use Rattle.verdicts.specs.Refused as R
 use Rattle.verdicts.specs.Refused.{IsRecord, OrderFields, Tabless, count_of, order_bytes}
 use Rattle.verdicts.proofs.Bytes.{Prints, no_tab}
 
 -- the parts between separators have none
-onto_without : (s b : ℕ) (ps : List (List ℕ)) → eqb b s ≡ false → AllByRecursion (λ p. count_of s p ≡ 0) ps → AllByRecursion (λ p. count_of s p ≡ 0) (onto b ps)
-onto_without s b [] e h = (cond-false (eqb b s) _ _ e, tt)
-onto_without s b (p ∷ ps) e (h, hs) = (cond-false (eqb b s) _ _ e ∙ h, hs)
-
 pub parts_without : (s : ℕ) (bs : List ℕ) → AllByRecursion (λ p. count_of s p ≡ 0) (split s bs)
 parts_without s [] = (refl, tt)
-parts_without s (b ∷ bs) =
-    cond_both (eqb b s) ([] ∷ split s bs) (onto b (split s bs)) (AllByRecursion (λ p. count_of s p ≡ 0))
-    (λ _. (refl, parts_without s bs)) (λ e. onto_without s b (split s bs) e (parts_without s bs))
+parts_without s (b ∷ bs) = let k = parts_without s bs in grind (arith, nat_tests)
 
 pub none_lacks : (s : ℕ) (bs : List ℕ) → count_of s bs ≡ 0 → Lacks s bs
 none_lacks s [] h = tt
-none_lacks s (b ∷ bs) h = ((λ e. grind (arith, nat_tests)), none_lacks s bs (grind (arith, nat_tests)))
+none_lacks s (b ∷ bs) h = let k = none_lacks s bs in grind (arith, nat_tests)
 
 lacks_none : (s : ℕ) (bs : List ℕ) → Lacks s bs → count_of s bs ≡ 0
 lacks_none s [] h = refl
-lacks_none s (b ∷ bs) (h, hs) = cond-false (eqb b s) _ _ (ne_eqb b s h) ∙ lacks_none s bs hs
+lacks_none s (b ∷ bs) h = let k = lacks_none s bs h.1 in grind (arith, nat_tests)
 
 pub prints_tabless : (bs : List ℕ) → Prints bs → Tabless bs
 prints_tabless bs h = lacks_none 9 bs (no_tab bs h)
@@ -63,26 +65,6 @@ pub fields_read : (ev ef : List ℕ) (cs : List (List ℕ)) → OrderFields ev e
 fields_read ev ef cs (h, k, hs, le) =
     rw (split_append 9 ev (ef ++ tabbed cs), one_read ev h, split_tabbed ef cs (none_lacks 9 ef k) (each_lacks cs hs), le-leb (length cs) 4 le)
 
-abbrev pub is_ok : {X : Type 0} → Result X LineCause → Bool
-is_ok (Ok x) = true
-is_ok (Err e) = false
-
--- whether a line has a key word and the fields that it takes
-abbrev pub shaped_so : List ℕ → Bool
-shaped_so l =
-    by (past (codes "tag" ++ 9 ∷ []) l) (λ r. is_ok (one_field (split 9 r)))
-    (by (past (codes "point" ++ 9 ∷ []) l) (λ r. is_ok (one_field (split 9 r)))
-    (by (past (codes "order" ++ 9 ∷ []) l) (λ r. is_ok (order_fields (split 9 r))) false))
-
-pub record_shaped : {l : List ℕ} → IsRecord l → shaped_so l ≡ true
-record_shaped (R.tag_record {w} h) = rw (one_read w h)
-record_shaped (R.point_record {w} h) = rw (one_read w h)
-record_shaped (R.order_record ev ef cs h) = ap is_ok (fields_read ev ef cs h)
-
-maybe_cases : {X : Type 0} (o : Option X) → ((x : X) × (o ≡ Some x)) ⊎ (o ≡ None)
-maybe_cases (Some x) = inl (x, refl)
-maybe_cases None = inr refl
-
 one_cases : (ws : List (List ℕ)) → ((w : List ℕ) × (ws ≡ w ∷ [])) ⊎ (one_field ws ≡ Err C.Fields)
 one_cases [] = inr refl
 one_cases (w ∷ []) = inl (w, refl)
@@ -91,55 +73,40 @@ one_cases (w ∷ v ∷ ws) = inr refl
 few_cases : (ws : List (List ℕ)) → ((ev ef : List ℕ) × (cs : List (List ℕ)) × (ws ≡ ev ∷ ef ∷ cs) × (length cs ≤ 4)) ⊎ (order_fields ws ≡ Err C.Fields)
 few_cases [] = inr refl
 few_cases (ev ∷ []) = inr refl
-few_cases (ev ∷ ef ∷ cs) =
-    elim (cases_Bool (leb (length cs) 4)) [
-      | inl e ↦ inl (ev, ef, cs, refl, leb-true (length cs) 4 e)
-      | inr e ↦ inr (cond-false (leb (length cs) 4) _ _ e)
-    ]
+few_cases (ev ∷ ef ∷ cs) = elim (cases_Bool (leb (length cs) 4)) [ inl e ↦ inl (ev, ef, cs, refl, leb-true (length cs) 4 e) | inr e ↦ inr (rw e) ]
 
 one_tabless : (r w : List ℕ) → split 9 r ≡ w ∷ [] → Tabless r
 one_tabless r w is = subst Tabless (ap (joined 9) (sym is) ∙ joined_split 9 r) (subst (AllByRecursion Tabless) is (parts_without 9 r)).0
 
+-- a line whose fields are found has another fault, if any
+name_faults : (n : ℕ) (p q : Bool) (x : Name) (make : Name → Content) → and_then (and_then (room 64 n) (λ _. cond p (cond q (Err C.Repeated) (Ok x)) (Err C.Name))) (λ m. Ok (make m)) ≡ Err C.Fields → ⊥
+name_faults n p q x make h = grind (arith, nat_tests)
+
+order_faults : (n : ℕ) (a : Result Event WordFault) (b : Result Statement WordFault) (c : Result (List (Option Statement)) WordFault) (t : Content) (p q : Order → Bool) → and_then (and_then (room 128 n) (λ _. and_then (worded a) (λ ev. and_then (worded b) (λ ef. and_then (worded c) (λ cs. let o : Order = record { event = ev; effect = ef; conditions = cs } in cond (p o) (cond (q o) (Ok o) (Err C.UnboundT)) (Err C.LiteralWithDuty)))))) (λ o. Ok (with_order t o)) ≡ Err C.Fields → ⊥
+order_faults n a b c t p q h = grind (arith, nat_tests)
+
 module _ (t : Content) where
   -- a line is a record, or it is read as none
-  abbrev pub Sorted : List ℕ → Type 0
-  Sorted l = IsRecord l ⊎ ((shaped_so l ≡ false) × (line_of t l ≡ Err C.Fields))
-
-  tag_sorted : (l r : List ℕ) → past (codes "tag" ++ 9 ∷ []) l ≡ Some r → Sorted l
-  tag_sorted l r e =
-      elim (one_cases (split 9 r)) [
-        | inl (w, is) ↦ inl (subst IsRecord (sym (past_is (codes "tag" ++ 9 ∷ []) l r e)) (R.tag_record (one_tabless r w is)))
-        | inr bad ↦ inr (rw (e, bad), rw (e, bad))
-      ]
-
-  point_sorted : (l r : List ℕ) → past (codes "tag" ++ 9 ∷ []) l ≡ None → past (codes "point" ++ 9 ∷ []) l ≡ Some r → Sorted l
-  point_sorted l r a e =
-      elim (one_cases (split 9 r)) [
-        | inl (w, is) ↦ inl (subst IsRecord (sym (past_is (codes "point" ++ 9 ∷ []) l r e)) (R.point_record (one_tabless r w is)))
-        | inr bad ↦ inr (rw (a, e, bad), rw (a, e, bad))
-      ]
-
-  order_sorted : (l r : List ℕ) → past (codes "tag" ++ 9 ∷ []) l ≡ None → past (codes "point" ++ 9 ∷ []) l ≡ None → past (codes "order" ++ 9 ∷ []) l ≡ Some r → Sorted l
-  order_sorted l r a b e =
-      elim (few_cases (split 9 r)) [
+  pub sorted : (l : List ℕ) → IsRecord l ⊎ (line_of t l ≡ Err C.Fields)
+  sorted l =
+      by_front (codes "tag" ++ 9 ∷ []) l _ _ (λ b v. IsRecord b ⊎ (v ≡ Err C.Fields))
+      (λ r. elim (one_cases (split 9 r)) [ inl (w, is) ↦ inl (R.tag_record (one_tabless r w is)) | inr bad ↦ inr (rw bad) ])
+      (by_front (codes "point" ++ 9 ∷ []) l _ _ (λ b v. IsRecord b ⊎ (v ≡ Err C.Fields))
+      (λ r. elim (one_cases (split 9 r)) [ inl (w, is) ↦ inl (R.point_record (one_tabless r w is)) | inr bad ↦ inr (rw bad) ])
+      (by_front (codes "order" ++ 9 ∷ []) l _ _ (λ b v. IsRecord b ⊎ (v ≡ Err C.Fields))
+      (λ r. elim (few_cases (split 9 r)) [
         | inl (ev, ef, cs, is, le) ↦
             let (h, (k, hs)) = subst (AllByRecursion Tabless) is (parts_without 9 r) in
-            let whole : order_bytes ev ef cs ≡ l = ap (λ v. codes "order" ++ 9 ∷ v) (fields_joined r ev ef cs is) ∙ sym (past_is (codes "order" ++ 9 ∷ []) l r e) in
-            inl (subst IsRecord whole (R.order_record ev ef cs (h, k, hs, le)))
-        | inr bad ↦ inr (rw (a, b, e, bad), rw (a, b, e, bad))
-      ]
+            inl (subst (λ b. IsRecord (codes "order" ++ 9 ∷ b)) (fields_joined r ev ef cs is) (R.order_record ev ef cs (h, k, hs, le)))
+        | inr bad ↦ inr (rw bad)
+      ])
+      (inr refl)))
 
-  pub sorted : (l : List ℕ) → Sorted l
-  sorted l =
-      elim (maybe_cases (past (codes "tag" ++ 9 ∷ []) l)) [
-        | inl (r, e) ↦ tag_sorted l r e
-        | inr a ↦
-            elim (maybe_cases (past (codes "point" ++ 9 ∷ []) l)) [
-              | inl (r, e) ↦ point_sorted l r a e
-              | inr b ↦
-                  elim (maybe_cases (past (codes "order" ++ 9 ∷ []) l)) [
-                    | inl (r, e) ↦ order_sorted l r a b e
-                    | inr c ↦ inr (rw (a, b, c), rw (a, b, c))
-                  ]
-            ]
-      ]
+  -- but not both
+  pub record_read : {l : List ℕ} → IsRecord l → line_of t l ≡ Err C.Fields → ⊥
+  record_read (R.tag_record {w} h) e =
+      name_faults (length t.tags) (is_name w) (declared t (name_of w)) (name_of w) (with_tag t) (rw (one_read w h) at e)
+  record_read (R.point_record {w} h) e =
+      name_faults (length t.points) (is_name w) (declared t (name_of w)) (name_of w) (with_point t) (rw (one_read w h) at e)
+  record_read (R.order_record ev ef cs h) e =
+      order_faults (length t.orders) (placed 2 (event_of t.tags t.points ev)) (placed 3 (statement_of t.tags t.points ef)) (conditions_of t.tags t.points cs) t literal_apart t_bound (rw (fields_read ev ef cs h) at e)

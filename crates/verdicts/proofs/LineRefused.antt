@@ -1,6 +1,6 @@
 -- A line declares something or is refused by its first cause, and it is read so. Assumes nothing.
-use Rattle.std.proofs.Common.{◌≡◌, ℕ, ◌+◌, ◌<◌, ◌≤◌, ltb, ◌⊎◌, ◌↔◌, List, ◌∷◌, ◌++◌, length, Ok, Err, codes, Result, sym, refl, ◌∙◌, subst, inl, inr}
-use Rattle.std.proofs.lemmas.Bool.{both_ways, cases_Bool, le-ltb, lt-ltb, ltb-false, ltb-true}
+use Rattle.std.proofs.Common.{◌≡◌, ℕ, ◌+◌, ◌<◌, ◌≤◌, ltb, true, false, ◌⊎◌, ◌↔◌, List, ◌∷◌, ◌++◌, length, Ok, Err, Result, sym, refl, ◌∙◌, subst, inl, inr}
+use Rattle.std.proofs.lemmas.Bool.{cases_Bool, le-ltb, lt-ltb, ltb-false, ltb-true}
 use Rattle.std.specs.List.{AllByRecursion}
 use Rattle.duties.specs.declared.order.Event.{Event}
 use Rattle.duties.specs.declared.order.Statement.{Statement}
@@ -15,22 +15,14 @@ use Rattle.lines.specs.declared.fault.LineCause.{LineCause}
 use Rattle.lines.specs.declared.fault.LineCause.TheVariants as C
 use Rattle.lines.specs.Lines.{checked, declared, line_of}
 use Rattle.grammar.specs.Grammar.{SpellsEvent, SpellsStatement}
-use Rattle.grammar.proofs.EventSpelled.{events_spelled}
-use Rattle.grammar.proofs.Refused.{events_refused, statements_refused}
-use Rattle.grammar.proofs.StatementSpelled.{statements_spelled}
-use Rattle.grammar.proofs.Steps.{not_ok, same_ok}
+use Rattle.grammar.proofs.EventSpelled.{events_refused, events_spelled}
+use Rattle.grammar.proofs.StatementSpelled.{statements_refused, statements_spelled}
 use Rattle.verdicts.specs.Declares.{DeclaresLine, SpellsEach, no_field, and_field, a_tag, a_point, an_order, ordered_so}
 use Rattle.verdicts.specs.Refused as R
 use Rattle.verdicts.specs.Refused.{IsRecord, OrderFields, RefusesLine, Tabless, order_bytes}
 use Rattle.verdicts.proofs.Bytes.{event_prints, name_prints, statement_prints}
 use Rattle.verdicts.proofs.Conditions.{conditions_bad, conditions_read, conditions_told}
-use Rattle.verdicts.proofs.LineFields.{fields_read, one_read, prints_tabless, record_shaped, shaped_so, sorted}
-
-pub not_err : {X E A : Type 0} {e : E} {x : X} → ◌≡◌ {A = Result X E} (Ok x) (Err e) → A
-not_err h = not_ok (sym h)
-
-pub same_err : {X E : Type 0} {d e : E} → ◌≡◌ {A = Result X E} (Err d) (Err e) → d ≡ e
-same_err h = cc
+use Rattle.verdicts.proofs.LineFields.{fields_read, one_read, prints_tabless, record_read, sorted}
 
 module _ (t : Content) where
   each_tabless : {cs : List (List ℕ)} {ss : List Statement} → SpellsEach t.tags t.points cs ss → AllByRecursion Tabless cs
@@ -52,11 +44,7 @@ module _ (t : Content) where
   declared_line (an_order h k hs le lt apart bound) = order_read h k hs le lt ∙ rw (apart, bound)
 
   refused_line : {l : List ℕ} {c : LineCause} → RefusesLine t l c → line_of t l ≡ Err c
-  refused_line (R.no_record {l} h) =
-      elim (sorted t l) [
-        | inl r ↦ absurd (h r)
-        | inr (_, e) ↦ e
-      ]
+  refused_line (R.no_record {l} h) = elim (sorted t l) [ inl r ↦ absurd (h r) | inr e ↦ e ]
   refused_line (R.full_of_tags {w} h k) = rw (one_read w h, le-ltb (length t.tags) 64 k)
   refused_line (R.ill_named_tag {w} h k is) = rw (one_read w h, lt-ltb (length t.tags) 64 k, is)
   refused_line (R.repeated_tag {w} k is known) = rw (one_read w (prints_tabless w (name_prints w is)), lt-ltb (length t.tags) 64 k, is, known)
@@ -77,36 +65,17 @@ module _ (t : Content) where
   abbrev Judged : List ℕ → Type 0
   Judged l = ((u : Content) × DeclaresLine t l u) ⊎ ((c : LineCause) × RefusesLine t l c)
 
-  tag_judged : (w : List ℕ) → Tabless w → Judged (codes "tag" ++ 9 ∷ w)
-  tag_judged w h =
-      elim (cases_Bool (ltb (length t.tags) 64)) [
+  -- a name that is to be the next of n
+  name_judged : (l w : List ℕ) (n : ℕ) (u : Content) → (64 ≤ n → RefusesLine t l C.Full) → (n < 64 → is_name w ≡ false → RefusesLine t l C.Name) → (n < 64 → is_name w ≡ true → declared t (name_of w) ≡ true → RefusesLine t l C.Repeated) → (n < 64 → is_name w ≡ true → declared t (name_of w) ≡ false → DeclaresLine t l u) → Judged l
+  name_judged l w n u full ill repeated new =
+      elim (cases_Bool (ltb n 64)) [
         | inl k ↦
-            let lt = ltb-true (length t.tags) 64 k in
+            let lt = ltb-true n 64 k in
             elim (cases_Bool (is_name w)) [
-              | inl is ↦
-                  elim (cases_Bool (declared t (name_of w))) [
-                    | inl known ↦ inr (C.Repeated, R.repeated_tag lt is known)
-                    | inr new ↦ inl (with_tag t (name_of w), a_tag is new lt)
-                  ]
-              | inr is ↦ inr (C.Name, R.ill_named_tag h lt is)
+              | inl is ↦ elim (cases_Bool (declared t (name_of w))) [ inl e ↦ inr (C.Repeated, repeated lt is e) | inr e ↦ inl (u, new lt is e) ]
+              | inr is ↦ inr (C.Name, ill lt is)
             ]
-        | inr k ↦ inr (C.Full, R.full_of_tags h (ltb-false (length t.tags) 64 k))
-      ]
-
-  point_judged : (w : List ℕ) → Tabless w → Judged (codes "point" ++ 9 ∷ w)
-  point_judged w h =
-      elim (cases_Bool (ltb (length t.points) 64)) [
-        | inl k ↦
-            let lt = ltb-true (length t.points) 64 k in
-            elim (cases_Bool (is_name w)) [
-              | inl is ↦
-                  elim (cases_Bool (declared t (name_of w))) [
-                    | inl known ↦ inr (C.Repeated, R.repeated_point lt is known)
-                    | inr new ↦ inl (with_point t (name_of w), a_point is new lt)
-                  ]
-              | inr is ↦ inr (C.Name, R.ill_named_point h lt is)
-            ]
-        | inr k ↦ inr (C.Full, R.full_of_points h (ltb-false (length t.points) 64 k))
+        | inr k ↦ inr (C.Full, full (ltb-false n 64 k))
       ]
 
   module _ (ev ef : List ℕ) (cs : List (List ℕ)) (h : OrderFields ev ef cs) where
@@ -145,29 +114,31 @@ module _ (t : Content) where
         ]
 
   record_judged : {l : List ℕ} → IsRecord l → Judged l
-  record_judged (R.tag_record {w} h) = tag_judged w h
-  record_judged (R.point_record {w} h) = point_judged w h
+  record_judged {l} (R.tag_record {w} h) =
+      name_judged l w (length t.tags) (with_tag t (name_of w)) (λ k. R.full_of_tags h k) (λ lt is. R.ill_named_tag h lt is) (λ lt is e. R.repeated_tag lt is e) (λ lt is e. a_tag is e lt)
+  record_judged {l} (R.point_record {w} h) =
+      name_judged l w (length t.points) (with_point t (name_of w)) (λ k. R.full_of_points h k) (λ lt is. R.ill_named_point h lt is) (λ lt is e. R.repeated_point lt is e) (λ lt is e. a_point is e lt)
   record_judged (R.order_record ev ef cs h) = order_judged ev ef cs h
 
   judged : (l : List ℕ) → Judged l
   judged l =
       elim (sorted t l) [
         | inl r ↦ record_judged r
-        | inr (e, _) ↦ inr (C.Fields, R.no_record (λ r. both_ways (shaped_so l) e (record_shaped r)))
+        | inr e ↦ inr (C.Fields, R.no_record (λ r. record_read t r e))
       ]
 
   line_declared : (l : List ℕ) (u : Content) → line_of t l ≡ Ok u → DeclaresLine t l u
   line_declared l u e =
       elim (judged l) [
-        | inl (v, d) ↦ subst (DeclaresLine t l) (same_ok (sym (declared_line d) ∙ e)) d
-        | inr (c, r) ↦ not_err (sym e ∙ refused_line r)
+        | inl (v, d) ↦ let k = declared_line d in let q : v ≡ u = cc in subst (DeclaresLine t l) q d
+        | inr (c, r) ↦ cc (refused_line r)
       ]
 
   line_refused : (l : List ℕ) (c : LineCause) → line_of t l ≡ Err c → RefusesLine t l c
   line_refused l c e =
       elim (judged l) [
-        | inl (u, d) ↦ not_ok (sym e ∙ declared_line d)
-        | inr (d, r) ↦ subst (RefusesLine t l) (same_err (sym (refused_line r) ∙ e)) r
+        | inl (u, d) ↦ cc (declared_line d)
+        | inr (d, r) ↦ let k = refused_line r in let q : d ≡ c = cc in subst (RefusesLine t l) q r
       ]
 
 pub lines_declared : (t : Content) (l : List ℕ) (u : Content) → (line_of t l ≡ Ok u) ↔ DeclaresLine t l u

@@ -1,5 +1,5 @@
 -- Every text has one answer. Assumes nothing.
-use Rattle.std.proofs.Common.{◌≡◌, ℕ, ◌⊎◌, List, Ok, Err, Result, refl, inl, inr, arith}
+use Rattle.std.proofs.Common.{◌≡◌, ℕ, ◌⊎◌, List, Ok, Err, Result, refl, inl, inr}
 use Rattle.sheets.specs.Sheets.{Content}
 use Rattle.verdicts.specs.declared.fault.LoadFault.{LoadFault}
 use Rattle.verdicts.specs.Declares.{Declares}
@@ -20,7 +20,7 @@ same_fault : (f g : LoadFault) (r : Result Content LoadFault) → r ≡ Err f �
 same_fault f g r p q = cc
 
 not_both : (t : Content) (f : LoadFault) (r : Result Content LoadFault) → r ≡ Ok t → r ≡ Err f → ⊥
-not_both t f r p q = let z : ◌≡◌ {A = ℕ} 0 1 = cc in omega arith
+not_both t f r p q = cc
 
 pub one_answer : EveryTextHasOneAnswer
 one_answer = (

@@ -1,7 +1,8 @@
 -- A text is read as what its lines declare. Assumes nothing.
-use Rattle.std.proofs.Common.{◌≡◌, ℕ, ◌+◌, ◌<◌, Bool, true, false, cond, eqb, leb, List, [], ◌∷◌, ◌++◌, length, Some, None, Ok, Err, Option, Result, sym, refl, ap, ◌∙◌, subst, arith}
-use Rattle.std.proofs.lemmas.List.{append_assoc}
-use Rattle.std.proofs.lemmas.Bool.{and_from, and_parts, cond-true, le-leb, leb-true}
+use Rattle.std.proofs.Common.{◌≡◌, ℕ, ◌+◌, ◌<◌, ◌≤◌, true, cond, eqb, leb, List, [], ◌∷◌, ◌++◌, length, None, Ok, Err, Option, Result, sym, refl, ap, ◌∙◌, subst, arith}
+use Rattle.std.proofs.lemmas.List.{append-nil, append_assoc}
+use Rattle.std.proofs.lemmas.Bool.{le-leb}
+use Rattle.std.proofs.lemmas.Bool.Decides.{nat_tests}
 use Rattle.std.specs.List.{AllByRecursion}
 use Rattle.duties.specs.declared.order.Statement.{Statement}
 use Rattle.names.specs.declared.name.Name.{Name}
@@ -15,45 +16,29 @@ use Rattle.lines.specs.Lines.{line_of}
 use Rattle.verdicts.specs.declared.fault.LoadFault.{LoadFault}
 use Rattle.verdicts.specs.declared.fault.LoadFault.TheVariants as F
 use Rattle.verdicts.specs.Texts.{lined, lines_of, loaded, meaning, passed, plain_byte, stray_line, unfinished_line}
-use Rattle.grammar.proofs.Pieces.{Lacks, after, joined, joined_split, lacks_here, split_append, split_one}
-use Rattle.grammar.proofs.Steps.{not_ok, ok_then, same_ok, then_ok}
+use Rattle.grammar.proofs.Pieces.{Lacks, after, all_both, joined, joined_split, lacks_all, split_append, split_one}
 use Rattle.verdicts.specs.Declares.{Declare, Declares, DeclaresLine, SpellsEach, a_tag, a_point, an_order, no_field, and_field, no_line, and_line, ended, tabbed}
 use Rattle.verdicts.specs.Verdicts.{ATextIsTakenAsWhatItsLinesDeclare}
-use Rattle.verdicts.proofs.Bytes.{all_both, event_prints, name_prints, no_feed, one_line, statement_prints}
+use Rattle.verdicts.proofs.Bytes.{event_prints, name_prints, no_feed, one_line, statement_prints}
 use Rattle.verdicts.proofs.LineRefused.{lines_declared}
 
 -- what stands between the line feeds of a finished text
 abbrev pub parted : List (List ℕ) → List (List ℕ)
 parted ls = ls ++ [] ∷ []
 
-pub not_none : {X A : Type 0} {x : X} → ◌≡◌ {A = Option X} (Some x) None → A
-not_none h = absurd (let z : ◌≡◌ {A = ℕ} 0 1 = cc in omega arith)
-
-pub passed_ok : (o : Option ℕ) (fault : ℕ → LoadFault) → passed o fault ≡ Ok tt → o ≡ None
-passed_ok None fault h = refl
-passed_ok (Some k) fault h = not_ok h
-
-stray_none : (b : Bool) (x : Option ℕ) (k : ℕ) → cond b x (Some k) ≡ None → (b ≡ true) × (x ≡ None)
-stray_none true x k h = (refl, h)
-stray_none false x k h = not_none h
-
 pub stray_plain : (k : ℕ) (bs : List ℕ) → stray_line k bs ≡ None → all plain_byte bs ≡ true
 stray_plain k [] h = refl
-stray_plain k (b ∷ bs) h =
-    let p = stray_none (plain_byte b) (stray_line (cond (eqb b 10) (k + 1) k) bs) k h in
-    and_from (plain_byte b) (all plain_byte bs) p.0 (stray_plain (cond (eqb b 10) (k + 1) k) bs p.1)
+stray_plain k (b ∷ bs) h = let i = stray_plain (cond (eqb b 10) (k + 1) k) bs in grind (arith, nat_tests)
 
 pub plain_stray : (k : ℕ) (bs : List ℕ) → all plain_byte bs ≡ true → stray_line k bs ≡ None
 plain_stray k [] h = refl
-plain_stray k (b ∷ bs) h =
-    let p = and_parts (plain_byte b) (all plain_byte bs) h in
-    cond-true (plain_byte b) _ _ p.0 ∙ plain_stray (cond (eqb b 10) (k + 1) k) bs p.1
+plain_stray k (b ∷ bs) h = let i = plain_stray (cond (eqb b 10) (k + 1) k) bs in grind (arith, nat_tests)
 
 -- the last part is empty
 pub finished : (k : ℕ) (ps : List (List ℕ)) → 0 < length ps → unfinished_line k ps ≡ None → (ls : List (List ℕ)) × (ps ≡ parted ls)
 finished k [] some h = absurd (omega arith)
 finished k ([] ∷ []) some h = ([], refl)
-finished k ((b ∷ bs) ∷ []) some h = not_none h
+finished k ((b ∷ bs) ∷ []) some h = cc
 finished k (p ∷ q ∷ ps) some h = let (ls, e) = finished (k + 1) (q ∷ ps) (omega arith) h in (p ∷ ls, ap (λ l. p ∷ l) e)
 
 pub parted_finished : (k : ℕ) (ls : List (List ℕ)) → unfinished_line k (parted ls) ≡ None
@@ -69,28 +54,27 @@ pub joined_ended : (ls : List (List ℕ)) → joined 10 (parted ls) ≡ ended ls
 joined_ended [] = refl
 joined_ended (l ∷ ls) = after_ended l ls
 
-split_ended : (ls : List (List ℕ)) → AllByRecursion (Lacks 10) ls → split 10 (ended ls) ≡ parted ls
-split_ended [] h = refl
-split_ended (l ∷ ls) (h, hs) = rw (split_append 10 l (ended ls), split_one 10 l h, split_ended ls hs)
+-- lines with no line feed, and what follows
+pub split_lines : (ls : List (List ℕ)) (bs : List ℕ) → AllByRecursion (Lacks 10) ls → split 10 (ended ls ++ bs) ≡ ls ++ split 10 bs
+split_lines [] bs h = refl
+split_lines (l ∷ ls) bs (h, hs) = rw (append_assoc l (10 ∷ ended ls) bs, split_append 10 l (ended ls ++ bs), split_one 10 l h, split_lines ls bs hs)
 
 pub lines_step : (l : List ℕ) (ls : List (List ℕ)) (k : ℕ) (t : Content) → lines_of (parted (l ∷ ls)) k t ≡ and_then (loaded (lined k (line_of t l))) (lines_of (parted ls) (k + 1))
 lines_step l [] k t = refl
 lines_step l (m ∷ ls) k t = refl
 
-pub line_ok : (k : ℕ) (r : Result Content LineCause) (u : Content) → loaded (lined k r) ≡ Ok u → r ≡ Ok u
-line_ok k (Ok v) u h = ap Ok (same_ok h)
-line_ok k (Err c) u h = not_ok h
+line_passed : (k : ℕ) (r : Result Content LineCause) (g : Content → Result Content LoadFault) (u : Content) → and_then (loaded (lined k r)) g ≡ Ok u → (v : Content) × (r ≡ Ok v) × (g v ≡ Ok u)
+line_passed k r g u h = grind arith
 
 lines_declare : (ls : List (List ℕ)) (k : ℕ) (t u : Content) → lines_of (parted ls) k t ≡ Ok u → Declare t ls u
-lines_declare [] k t u h = subst (Declare t []) (same_ok h) no_line
+lines_declare [] k t u h = let q : t ≡ u = cc in subst (Declare t []) q no_line
 lines_declare (l ∷ ls) k t u h =
-    let (v, a, b) = then_ok (loaded (lined k (line_of t l))) (lines_of (parted ls) (k + 1)) u (sym (lines_step l ls k t) ∙ h) in
-    and_line ((lines_declared t l v).0 (line_ok k (line_of t l) v a)) (lines_declare ls (k + 1) v u b)
+    let (v, a, b) = line_passed k (line_of t l) (lines_of (parted ls) (k + 1)) u (sym (lines_step l ls k t) ∙ h) in
+    and_line ((lines_declared t l v).0 a) (lines_declare ls (k + 1) v u b)
 
 declare_lines : {t u : Content} {ls : List (List ℕ)} (k : ℕ) → Declare t ls u → lines_of (parted ls) k t ≡ Ok u
 declare_lines k no_line = refl
-declare_lines k (and_line {t} {u} {v} {l} {ls} h hs) =
-    lines_step l ls k t ∙ ok_then (lines_of (parted ls) (k + 1)) (ap (λ r. loaded (lined k r)) ((lines_declared t l u).1 h)) ∙ declare_lines (k + 1) hs
+declare_lines k (and_line {t} {u} {v} {l} {ls} h hs) = rw (lines_step l ls k t, (lines_declared t l u).1 h) (declare_lines (k + 1) hs)
 
 fields_feedless : {tags points : List Name} {cs : List (List ℕ)} {ss : List Statement} → SpellsEach tags points cs ss → all one_line (tabbed cs) ≡ true
 fields_feedless no_field = refl
@@ -105,36 +89,31 @@ line_feedless (an_order {ev} {ef} {cs} h k hs le lt apart bound) =
 -- no line that declares something has a line feed
 pub declare_feedless : {t u : Content} {ls : List (List ℕ)} → Declare t ls u → AllByRecursion (Lacks 10) ls
 declare_feedless no_line = tt
-declare_feedless (and_line {t} {u} {v} {l} h hs) = (lacks_here 10 l (line_feedless h), declare_feedless hs)
+declare_feedless (and_line {t} {u} {v} {l} h hs) = (lacks_all one_line 10 l refl (line_feedless h), declare_feedless hs)
 
--- a test that was passed
-cond_ok : {X E : Type 0} (b : Bool) (r : Result X E) (e : E) (x : X) → cond b r (Err e) ≡ Ok x → (b ≡ true) × (r ≡ Ok x)
-cond_ok true r e x h = (refl, h)
-cond_ok false r e x h = not_ok h
+-- a text that passes the checks, by what they say and by what its lines come to
+abbrev pub checked : ℕ → Option ℕ → Option ℕ → Result Content LoadFault → Result Content LoadFault
+checked n stray end r =
+    cond (leb n 32768) (and_then (passed stray F.StrayByte) (λ _. and_then (passed end F.Unfinished) (λ _. r))) (Err F.TooLong)
 
-abbrev pub finished_text : List ℕ → Result Content LoadFault
-finished_text text = and_then (passed (unfinished_line 1 (split 10 text)) F.Unfinished) (λ _. lines_of (split 10 text) 1 blank)
-
-abbrev pub plain_text : List ℕ → Result Content LoadFault
-plain_text text = and_then (passed (stray_line 1 text) F.StrayByte) (λ _. finished_text text)
+checks_passed : (n : ℕ) (stray end : Option ℕ) (r : Result Content LoadFault) (t : Content) → checked n stray end r ≡ Ok t → (n ≤ 32768) × (stray ≡ None) × (end ≡ None) × (r ≡ Ok t)
+checks_passed n stray end r t h = grind (arith, nat_tests)
 
 text_declares : (text : List ℕ) (t : Content) → meaning text ≡ Ok t → Declares text t
 text_declares text t h =
-    let (a, b) = cond_ok (leb (length text) 32768) (plain_text text) F.TooLong t h in
-    let (_, c, d) = then_ok (passed (stray_line 1 text) F.StrayByte) (λ _. finished_text text) t b in
-    let (_, e, f) = then_ok (passed (unfinished_line 1 (split 10 text)) F.Unfinished) (λ _. lines_of (split 10 text) 1 blank) t d in
-    let (ls, is) = finished 1 (split 10 text) (split_some 10 text) (passed_ok (unfinished_line 1 (split 10 text)) F.Unfinished e) in
+    let (short, plain, whole, e) = checks_passed (length text) (stray_line 1 text) (unfinished_line 1 (split 10 text)) (lines_of (split 10 text) 1 blank) t h in
+    let (ls, is) = finished 1 (split 10 text) (split_some 10 text) whole in
     record {
-      short = leb-true (length text) 32768 a;
-      plain = stray_plain 1 text (passed_ok (stray_line 1 text) F.StrayByte c);
+      short = short;
+      plain = stray_plain 1 text plain;
       lines = ls;
       spelled = sym (joined_split 10 text) ∙ ap (joined 10) is ∙ joined_ended ls;
-      each = lines_declare ls 1 blank t (ap (λ ps. lines_of ps 1 blank) (sym is) ∙ f);
+      each = lines_declare ls 1 blank t (ap (λ ps. lines_of ps 1 blank) (sym is) ∙ e);
     }
 
 text_taken : (text : List ℕ) (t : Content) → Declares text t → meaning text ≡ Ok t
 text_taken text t d =
-    let is : split 10 text ≡ parted d.lines = ap (split 10) d.spelled ∙ split_ended d.lines (declare_feedless d.each) in
+    let is : split 10 text ≡ parted d.lines = ap (split 10) d.spelled ∙ ap (split 10) (sym (append-nil (ended d.lines))) ∙ split_lines d.lines [] (declare_feedless d.each) in
     rw (le-leb (length text) 32768 d.short, plain_stray 1 text d.plain, is, parted_finished 1 d.lines) (declare_lines 1 d.each)
 
 pub texts_declared : ATextIsTakenAsWhatItsLinesDeclare

@@ -4,7 +4,7 @@ ghost use Rattle.verdicts.specs.declared.fault.LoadFault.TheVariants.{Line as In
 
 use lines::LineCause;
 
-// A line's fault, made with the line, counted from 1.
+// A line's fault, made with the line, counted from 1. No common type with a word's fault: the place has another name in each, and neither has methods.
 #[derive(Clone, Copy)]
 pub struct LineFault {
     pub line: usize,

@@ -1,4 +1,4 @@
-// A refusal as numbers: its own, its line and its field.
+// A refusal as numbers: its own, its line and its field. They are the table's, which other programs read; within the program a fault is an enum.
 ghost use Rattle.std.specs.Prelude.{◌≡◌};
 ghost use Rattle.verdicts.specs.Refusals.{line_refusal, refusal};
 

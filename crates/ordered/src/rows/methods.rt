@@ -1,10 +1,10 @@
-ghost use Rattle.std.specs.Prelude.{◌≡◌, ℕ, ◌<◌, ◌≤◌, min, true, false, not, ◌&&◌, ◌||◌, ◌⊎◌, [], length, take, drop, if◌then◌else◌, Some, None, Decides, nat_lt};
+ghost use Rattle.std.specs.Prelude.{◌≡◌, ℕ, ◌<◌, ◌≤◌, min, true, false, not, ◌&&◌, ◌||◌, ◌⊎◌, [], length, drop, if◌then◌else◌, Some, None, Decides, nat_lt};
 ghost use Rattle.ordered.specs.Ascending.{◌∈◌, same, member, rising, holding, including, excluding, following, leading, Least, Above, LeastSuch};
 ghost use Rattle.ordered.specs.Changes.{Entered, Struck};
 ghost use Rattle.ordered.specs.Rows.{items, capacity};
 
 use crate::order::TotalOrder;
-use crate::places::{above, first, front, holds, insert_row, remove_row};
+use crate::places::{above, first, holds, insert_row, remove_row};
 use crate::rows::OrderedRows;
 
 impl<'a, T: TotalOrder> OrderedRows<'a, T> {
@@ -15,19 +15,17 @@ impl<'a, T: TotalOrder> OrderedRows<'a, T> {
         OrderedRows { rows, count: 0 }
     }
 
-    // The count, as far as there are rows for it.
-    fn used(&self) -> usize
-        ensures size { result ≡ length (items self.now) }
-        ensures within { result ≤ capacity self.now }
-        ensures front { take result self.now.rows.now ≡ items self.now }
+    // The rows that are in use.
+    fn in_use(&self) -> &[T]
+        ensures { result.now ≡ items self.now }
     {
-        self.count.min(self.rows.len())
+        &self.rows[..self.count]
     }
 
     pub fn count(&self) -> usize
         ensures { result ≡ length (items self.now) }
     {
-        self.used()
+        self.in_use().len()
     }
 
     pub fn room(&self) -> usize
@@ -38,27 +36,27 @@ impl<'a, T: TotalOrder> OrderedRows<'a, T> {
 
     pub fn holds(&self, x: T) -> bool
         ensures answer { result ≡ holding T.less x (items self.now) }
-        ensures set { rising T.less (items self.now) ≡ true → result ≡ member T.less x (items self.now) }
-        ensures decides { rising T.less (items self.now) ≡ true → Decides result (x ∈ items self.now) }
+        ensures set { result ≡ member T.less x (items self.now) }
+        ensures decides { Decides result (x ∈ items self.now) }
     {
-        holds(front(self.rows, self.count), x)
+        holds(self.in_use(), x)
     }
 
     // The first row above x.
     pub fn after(&self, x: T) -> Option<T>
         ensures row { result ≡ following T.less x (items self.now) }
-        ensures least { rising T.less (items self.now) ≡ true → Least T.less (T.less x) (items self.now) result }
-        ensures such { rising T.less (items self.now) ≡ true → LeastSuch T.less (Above T.less (Some x)) (items self.now) result }
+        ensures least { Least T.less (T.less x) (items self.now) result }
+        ensures such { LeastSuch T.less (Above T.less (Some x)) (items self.now) result }
     {
-        above(front(self.rows, self.count), x)
+        above(self.in_use(), x)
     }
 
     pub fn first(&self) -> Option<T>
         ensures row { result ≡ leading (items self.now) }
-        ensures least { rising T.less (items self.now) ≡ true → Least T.less (λ z. true) (items self.now) result }
-        ensures such { rising T.less (items self.now) ≡ true → LeastSuch T.less (Above T.less None) (items self.now) result }
+        ensures least { Least T.less (λ z. true) (items self.now) result }
+        ensures such { LeastSuch T.less (Above T.less None) (items self.now) result }
     {
-        first(front(self.rows, self.count))
+        first(self.in_use())
     }
 
     // No row is left. The memory stays as it is.
@@ -74,7 +72,7 @@ impl<'a, T: TotalOrder> OrderedRows<'a, T> {
         ensures { result ≡ not (nat_lt (length (items self.now)) (min (capacity self.now) limit)) }
     {
         let room = self.rows.len().min(limit);
-        room <= self.used()
+        room <= self.count
     }
 
     // x, which is not there, goes to its place.
@@ -84,22 +82,20 @@ impl<'a, T: TotalOrder> OrderedRows<'a, T> {
         ensures rows { items self.new ≡ including T.less x (items self.old) }
         ensures spare { drop (length (items self.new)) self.new.rows.now ≡ drop (length (items self.new)) self.old.rows.now }
         ensures room { capacity self.new ≡ capacity self.old }
-        ensures ascending { rising T.less (items self.old) ≡ true → rising T.less (items self.new) ≡ true }
     {
-        let n = self.used();
-        insert_row(self.rows, n, x);
-        self.count = n + 1;
+        insert_row(self.rows, self.count, x);
+        self.count += 1;
     }
 
     // x goes to its place; false, with nothing changed, where there is no room for it.
     pub fn insert(&mut self, x: T) -> bool
         ensures answer { result ≡ (holding T.less x (items self.old) || nat_lt (length (items self.old)) (capacity self.old)) }
         ensures rows { items self.new ≡ (if result then including T.less x (items self.old) else items self.old) }
-        ensures set { rising T.less (items self.old) ≡ true → Entered x result (items self.old) (items self.new) (capacity self.old) }
-        ensures unchanged { rising T.less (items self.old) ≡ true → (result ≡ false) ⊎ (x ∈ items self.old) → self.new ≡ self.old }
+        ensures set { Entered x result (items self.old) (items self.new) (capacity self.old) }
+        ensures unchanged { (result ≡ false) ⊎ (x ∈ items self.old) → self.new ≡ self.old }
         ensures spare { (n : ℕ) → length (items self.new) ≤ n → drop n self.new.rows.now ≡ drop n self.old.rows.now }
         ensures room { capacity self.new ≡ capacity self.old }
-        ensures ascending { rising T.less (items self.old) ≡ true → rising T.less (items self.new) ≡ true }
+        ensures ascending { rising T.less (items self.new) ≡ true }
         ensures members { result ≡ true → (z : T) → member T.less z (items self.new) ≡ (same T.less z x || member T.less z (items self.old)) }
     {
         let room = self.room();
@@ -110,12 +106,12 @@ impl<'a, T: TotalOrder> OrderedRows<'a, T> {
     pub fn insert_up_to(&mut self, limit: usize, x: T) -> bool
         ensures answer { result ≡ (holding T.less x (items self.old) || nat_lt (length (items self.old)) (min (capacity self.old) limit)) }
         ensures rows { items self.new ≡ (if result then including T.less x (items self.old) else items self.old) }
-        ensures set { rising T.less (items self.old) ≡ true → length (items self.old) ≤ min (capacity self.old) limit → Entered x result (items self.old) (items self.new) (min (capacity self.old) limit) }
+        ensures set { length (items self.old) ≤ min (capacity self.old) limit → Entered x result (items self.old) (items self.new) (min (capacity self.old) limit) }
         ensures fits { length (items self.old) ≤ min (capacity self.old) limit → length (items self.new) ≤ min (capacity self.old) limit }
-        ensures unchanged { rising T.less (items self.old) ≡ true → (result ≡ false) ⊎ (x ∈ items self.old) → self.new ≡ self.old }
+        ensures unchanged { (result ≡ false) ⊎ (x ∈ items self.old) → self.new ≡ self.old }
         ensures spare { (n : ℕ) → length (items self.new) ≤ n → drop n self.new.rows.now ≡ drop n self.old.rows.now }
         ensures room { capacity self.new ≡ capacity self.old }
-        ensures ascending { rising T.less (items self.old) ≡ true → rising T.less (items self.new) ≡ true }
+        ensures ascending { rising T.less (items self.new) ≡ true }
     {
         if self.holds(x) {
             return true;
@@ -133,24 +129,22 @@ impl<'a, T: TotalOrder> OrderedRows<'a, T> {
         ensures rows { items self.new ≡ excluding T.less x (items self.old) }
         ensures spare { drop (length (items self.new)) self.new.rows.now ≡ drop (length (items self.new)) self.old.rows.now }
         ensures room { capacity self.new ≡ capacity self.old }
-        ensures ascending { rising T.less (items self.old) ≡ true → rising T.less (items self.new) ≡ true }
     {
-        let n = self.used();
-        remove_row(self.rows, n, x);
-        self.count = n - 1;
+        remove_row(self.rows, self.count, x);
+        self.count -= 1;
     }
 
     // x leaves; false, with nothing changed, where it was not there.
     pub fn remove(&mut self, x: T) -> bool
         ensures answer { result ≡ holding T.less x (items self.old) }
         ensures rows { items self.new ≡ excluding T.less x (items self.old) }
-        ensures set { rising T.less (items self.old) ≡ true → Struck x result (items self.old) (items self.new) }
+        ensures set { Struck x result (items self.old) (items self.new) }
         ensures fewer { length (items self.new) ≤ length (items self.old) }
         ensures unchanged { result ≡ false → self.new ≡ self.old }
         ensures spare { (n : ℕ) → length (items self.new) ≤ n → drop n self.new.rows.now ≡ drop n self.old.rows.now }
         ensures room { capacity self.new ≡ capacity self.old }
-        ensures ascending { rising T.less (items self.old) ≡ true → rising T.less (items self.new) ≡ true }
-        ensures members { rising T.less (items self.old) ≡ true → (z : T) → member T.less z (items self.new) ≡ (not (same T.less z x) && member T.less z (items self.old)) }
+        ensures ascending { rising T.less (items self.new) ≡ true }
+        ensures members { (z : T) → member T.less z (items self.new) ≡ (not (same T.less z x) && member T.less z (items self.old)) }
     {
         if !self.holds(x) {
             return false;

@@ -1,24 +1,19 @@
-use Rattle.std.proofs.Common.{sym, ◌∙◌, arith}
-use Rattle.chain.proofs.Seeking.{inside_here, inside_turn, above_turn, above_stop, above_none}
+use Rattle.std.proofs.Common.{rules, map, sym, ap, ◌∙◌}
+use Rattle.std.proofs.lemmas.Iterator.{YieldsList-from_map}
+use Rattle.std.proofs.lemmas.Iterator.Consumers.{YieldsList-from_first}
+use Rattle.std.proofs.lemmas.Iterator.Search.{find_from_yields_List}
+use Rattle.std.proofs.lemmas.Iterator.Adapters.{option_map_id}
+use borrow.Author.Tests.{tests}
+use Rattle.chain.specs.Spots.{comes_above}
+use Rattle.chain.specs.Walk.{to_come, trail}
+use Rattle.chain.specs.declared.link.Link.{Link}
+use Rattle.chain.proofs.Seeking.{find_above}
 use Rattle.chain.proofs.find.first_above.Goals as goal
 
-pub loop-left-preserved : goal.loop-left-preserved
-loop-left-preserved c = λ h.
-    let rows = c.args.rows.now in
-    let i = c.loop-left.invariant h in (
-      inside_turn rows c.loop-left.at c.loop-left.left c.loop-left-test.true c.row_at-row.result c.row_at-row.ensures i.0,
-      above_turn rows c.loop-left.at c.loop-left.left c.loop-left-test.true c.row_at-row.result c.row_at-row.ensures c.args.from c.if-is_above.ensures ∙ i.1,
-    )
-
-pub returns-then-is_above : goal.returns-then-is_above
-returns-then-is_above c = λ h.
-    above_stop c.args.rows.now c.loop-left.at c.loop-left.left c.loop-left-test.true c.row_at-row.result c.row_at-row.ensures c.args.from c.if-is_above.ensures ∙ (c.loop-left.invariant h).1
-
-pub returns-else-at-rows : goal.returns-else-at-rows
-returns-else-at-rows c = λ h.
-    let out = inside_here c.args.rows.now c.loop-left.at c.loop-left.left c.loop-left-test.true (c.loop-left.invariant h).0 in
-    absurd (omega (arith, c.if-at-rows.false))
-
-pub returns-after-loop-left : goal.returns-after-loop-left
-returns-after-loop-left c = λ h.
-    sym (above_none c.args.from c.args.rows.now c.loop-left.at c.loop-left.left c.loop-left-test.false) ∙ (c.loop-left.invariant h).1
+pub returns : goal.returns
+returns c =
+    let from = c.args.from in
+    sym (option_map_id c.find.result)
+    ∙ find_from_yields_List (comes_above from) c.find.new.self _ c.find.result c.find.ensures.ran
+    (YieldsList-from_map _ (λ (row : Link). row.duty) (YieldsList-from_first (λ row. row.now) to_come _ (ap to_come c.map.ensures.source ∙ c.new.ensures)) c.map.ensures.closure (λ x r q k. search rules)) (λ x b q k. search (rules, tests))
+    ∙ find_above from (map (λ (row : Link). row.duty) (trail c.args.rows.now c.args.ends.head c.args.ends.count))

@@ -1,25 +1,11 @@
-use Rattle.std.proofs.Common.{◌≡◌, ◌∷◌, ◌∙◌, rules}
-use Rattle.std.proofs.lemmas.Result.{err_from_is_err_and}
-use Rattle.sheets.specs.Sheets.{content}
+use Rattle.std.proofs.Common.{◌≡◌, ◌++◌, ◌∷◌, [], ◌+◌, take, drop, add-one, arith, rules}
+use Rattle.std.proofs.lemmas.Grind.{common_steps}
 use Rattle.text.specs.Split.{split}
-use Rattle.loader.proofs.TextLines.{lines_next, lines_stop}
+use Rattle.text.proofs.Splits.{split_last}
 use Rattle.loader.proofs.lines_of.read_lines.Goals as goal
 
-pub loop-after-preserved : goal.loop-after-preserved
-loop-after-preserved c =
-    let parts : split 10 c.loop-after.rest.now ≡ c.cut.result.0.now ∷ split 10 c.in-Some.after.now = search rules in (
-      c.loop-after.invariant.0 ∙ lines_next _ _ c.in-Some.after.now c.loop-after.number (content c.loop-after.table) parts (content c.read_line.new.table) c.in_ok-read_line.ensures.read,
-      c.in_ok-read_line.ensures.lawful,
-      c.in_ok-read_line.ensures.known,
-      search rules,
-    )
-
-pub returns-in_err-read_line : goal.returns-in_err-read_line
-returns-in_err-read_line c =
-    let parts : split 10 c.loop-after.rest.now ≡ c.cut.result.0.now ∷ split 10 c.in-Some.after.now = search rules in
-    let told = c.in_err-read_line.ensures in
-    let p = err_from_is_err_and c.from_residual.result c.from_residual.ensures.1 in
-    rw (p.1, p.2) (record {
-      read = c.loop-after.invariant.0 ∙ lines_stop _ _ c.in-Some.after.now c.loop-after.number (content c.loop-after.table) parts c.in_err-read_line.field-0.0 told.read;
-      lawful = told.lawful;
-    })
+pub loop-i-init : goal.loop-i-init
+loop-i-init c =
+    let parts : split 10 c.args.text.now ≡ split 10 (take c.in-Some.end c.args.text.now) ++ drop (c.in-Some.end + 1) c.args.text.now ∷ [] =
+    rw add-one (split_last 10 c.args.text.now c.in-Some.end (search rules) (search rules) (λ k a l e. search rules)) in
+    grind (arith, common_steps)

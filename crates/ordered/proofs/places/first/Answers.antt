@@ -1,28 +1,16 @@
-use Rattle.std.proofs.Common.{◌≡◌, true, Some, None, sym, subst, rules}
-use Rattle.ordered.specs.Ascending.{leading, Least, Above, LeastSuch}
+use Rattle.std.proofs.Common.{◌≡◌, rules}
+use Rattle.ordered.specs.Ascending.{leading}
 use Rattle.ordered.proofs.Sets.{leading_least, leading_such}
 use Rattle.ordered.proofs.places.first.Goals as goal
 
-pub returns-in-empty : goal.returns-in-empty
-returns-in-empty g c =
+pub returns-clause-least : goal.returns-clause-least
+returns-clause-least g c =
     let o = g.met.T.TotalOrder in
-    let less = g.T.TotalOrder.less in
-    let xs = c.args.rows.now in
-    let is : None ≡ leading xs = search rules in
-    record {
-      row = is;
-      least = λ h. subst (Least less (λ z. true) xs) (sym is) (leading_least less o.irreflexive o.transitive o.total xs h);
-      such = λ h. subst (LeastSuch less (Above less None) xs) (sym is) (leading_such less o.irreflexive o.transitive o.total xs h);
-    }
+    let is : c.copied.result ≡ leading c.args.rows.now = search rules in
+    λ h. rw is (leading_least g.T.TotalOrder.less o.irreflexive o.transitive o.total c.args.rows.now h)
 
-pub returns-in-len1-up : goal.returns-in-len1-up
-returns-in-len1-up g c =
+pub returns-clause-such : goal.returns-clause-such
+returns-clause-such g c =
     let o = g.met.T.TotalOrder in
-    let less = g.T.TotalOrder.less in
-    let xs = c.args.rows.now in
-    let is : Some c.y-item.result ≡ leading xs = search rules in
-    record {
-      row = is;
-      least = λ h. subst (Least less (λ z. true) xs) (sym is) (leading_least less o.irreflexive o.transitive o.total xs h);
-      such = λ h. subst (LeastSuch less (Above less None) xs) (sym is) (leading_such less o.irreflexive o.transitive o.total xs h);
-    }
+    let is : c.copied.result ≡ leading c.args.rows.now = search rules in
+    λ h. rw is (leading_such g.T.TotalOrder.less o.irreflexive o.transitive o.total c.args.rows.now h)

@@ -1,8 +1,8 @@
-use Rattle.std.proofs.Common.{◌≡◌, ◌≤◌, ◌∷◌, ◌++◌, take, drop, sym, ap, ◌∙◌, rules}
-use Rattle.ordered.specs.Ascending.{member, rising, placed}
-use Rattle.ordered.proofs.Sets.{rising_including, member_including}
-use Rattle.ordered.proofs.Shift.{insert_front, insert_rest}
-use Rattle.ordered.proofs.Walks.{including_new}
+use Rattle.std.proofs.Common.{◌≡◌, ◌+◌, take, set, ap, ◌∙◌, arith, rules}
+use Rattle.std.proofs.lemmas.Grind.{common_steps}
+use Rattle.ordered.specs.Ascending.{rising, placed, including}
+use Rattle.ordered.proofs.Sets.{rising_including}
+use Rattle.ordered.proofs.Shift.{insert_front}
 use Rattle.ordered.proofs.places.insert_row.Goals as goal
 
 pub returns : goal.returns
@@ -13,14 +13,11 @@ returns g c =
     let n = c.args.n in
     let x = c.args.x in
     let p = c.place-at.result in
-    let ys = c.push_front.new.rows in
-    let first : p ≤ n = search rules in
     let at : p ≡ placed less x (take n s) = search rules in
-    let new = including_new less x (take n s) c.requires.fresh in
-    let is = insert_front s p n first x ys c.requires.within c.push_front.ensures ∙ ap (λ k. take k (take n s) ++ (x ∷ drop k (take n s))) at ∙ sym new in
+    let is : take (n + 1) (set c.copy_within.new.self p x) ≡ including less x (take n s) =
+    rw c.copy_within.ensures.after (insert_front less x s p n at c.requires.fresh (search rules) c.requires.within) in
     record {
       front = is;
-      rest = insert_rest s p n first x ys c.requires.within c.push_front.ensures;
+      rest = grind (arith, common_steps);
       ascending = λ h. ap (rising less) is ∙ rising_including less o.irreflexive o.transitive o.total x (take n s) h;
-      members = λ z. ap (member less z) is ∙ member_including less o.irreflexive o.transitive o.total z x (take n s);
     }

@@ -1,9 +1,8 @@
-use Rattle.std.proofs.Common.{◌≡◌, ◌+◌, ◌<◌, ◌≤◌, ◌++◌, take, drop, sym, ap, ◌∙◌, arith, rules}
-use Rattle.std.proofs.lemmas.List.{length-take-le}
-use Rattle.ordered.specs.Ascending.{member, rising, placed}
-use Rattle.ordered.proofs.Sets.{rising_excluding, member_excluding}
-use Rattle.ordered.proofs.Shift.{remove_front, remove_rest}
-use Rattle.ordered.proofs.Walks.{excluding_old, placed_held}
+use Rattle.std.proofs.Common.{◌≡◌, ◌-◌, take, ap, ◌∙◌, arith, rules}
+use Rattle.std.proofs.lemmas.Grind.{common_steps}
+use Rattle.ordered.specs.Ascending.{rising, placed, excluding}
+use Rattle.ordered.proofs.Sets.{rising_excluding}
+use Rattle.ordered.proofs.Shift.{remove_front}
 use Rattle.ordered.proofs.places.remove_row.Goals as goal
 
 pub returns : goal.returns
@@ -14,15 +13,11 @@ returns g c =
     let n = c.args.n in
     let x = c.args.x in
     let p = c.place-at.result in
-    let ys = c.pop_front.new.rows in
     let at : p ≡ placed less x (take n s) = search rules in
-    let more : p < n = omega (arith, placed_held less x (take n s) c.requires.there, length-take-le n s c.requires.within) in
-    let first : p ≤ n = omega arith in
-    let old = excluding_old less x (take n s) c.requires.there in
-    let is = remove_front s p n first ys more c.requires.within c.pop_front.ensures ∙ ap (λ k. take k (take n s) ++ drop (k + 1) (take n s)) at ∙ sym old in
+    let is : take (n - 1) c.copy_within.new.self ≡ excluding less x (take n s) =
+    rw c.copy_within.ensures.after (remove_front less x s p n at c.requires.there (search rules) c.requires.within) in
     record {
       front = is;
-      rest = remove_rest s p n first ys more c.requires.within c.pop_front.ensures;
+      rest = grind (arith, common_steps);
       ascending = λ h. ap (rising less) is ∙ rising_excluding less o.irreflexive o.transitive o.total x (take n s) h;
-      members = λ h z. ap (member less z) is ∙ member_excluding less o.irreflexive o.transitive o.total z x (take n s) h;
     }

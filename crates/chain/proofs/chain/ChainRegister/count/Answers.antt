@@ -3,4 +3,4 @@ use Rattle.chain.proofs.Relinked.{length_chained}
 use Rattle.chain.proofs.chain.ChainRegister.count.Goals as goal
 
 pub returns : goal.returns
-returns c = λ k. sym (length_chained c.args.self.now.rows.now c.args.self.now.ends)
+returns c = sym (length_chained c.args.self.now.rows.now c.args.self.now.ends)

@@ -1,5 +1,4 @@
-use Rattle.std.proofs.Common.{true, false, length, sym, refl, ap, ◌∙◌, arith}
-use Rattle.std.proofs.lemmas.Bool.{both_ways}
+use Rattle.std.proofs.Common.{length, sym, ap, ◌∙◌, arith}
 use Rattle.ordered.specs.Ascending.{member}
 use Rattle.ordered.specs.Rows.{items}
 use Rattle.ordered.proofs.Changes.{struck}
@@ -8,42 +7,22 @@ use Rattle.ordered.proofs.Shift.{same_past}
 use Rattle.ordered.proofs.Walks.{excluding_none}
 use Rattle.ordered.proofs.rows.OrderedRows.remove.Goals as goal
 
-pub returns-then-not-holds : goal.returns-then-not-holds
-returns-then-not-holds g c =
-    let o = g.met.T.TotalOrder in
-    let less = g.T.TotalOrder.less in
-    let x = c.args.x in
-    let xs = items c.args.self.now in
-    let absent = c.if-not-holds.ensures.answer in
-    let is = sym (excluding_none less x xs (sym absent)) in
-    record {
-      answer = absent;
-      rows = is;
-      set = λ up. struck less o.irreflexive o.transitive o.total x xs up false xs absent is;
-      fewer = omega arith;
-      unchanged = λ e. refl;
-      spare = λ n f. refl;
-      room = refl;
-      ascending = λ h. h;
-      members = λ h z. ap (member less z) is ∙ member_excluding less o.irreflexive o.transitive o.total z x xs h;
-    }
+pub returns-then-not-holds-clause-rows : goal.returns-then-not-holds-clause-rows
+returns-then-not-holds-clause-rows g c = sym (excluding_none g.T.TotalOrder.less c.args.x (items c.args.self.now) (sym c.if-not-holds.ensures.answer))
 
-pub returns : goal.returns
-returns g c =
+pub returns-clause-set : goal.returns-clause-set
+returns-clause-set g c =
+    let o = g.met.T.TotalOrder in
+    struck g.T.TotalOrder.less o.irreflexive o.transitive o.total c.args.x _ c.args.self.now.ascending _ _ c.if-not-holds.ensures.answer c.remove_old.ensures.rows
+
+pub returns-clause-fewer : goal.returns-clause-fewer
+returns-clause-fewer g c = omega (arith, ap length c.remove_old.ensures.rows, length_excluding_le g.T.TotalOrder.less c.args.x (items c.args.self.now))
+
+pub returns-clause-spare : goal.returns-clause-spare
+returns-clause-spare g c = λ n f. same_past _ _ _ n f c.remove_old.ensures.spare
+
+pub returns-clause-members : goal.returns-clause-members
+returns-clause-members g c =
     let o = g.met.T.TotalOrder in
     let less = g.T.TotalOrder.less in
-    let x = c.args.x in
-    let xs = items c.args.self.now in
-    let there = c.if-not-holds.ensures.answer in
-    let did = c.remove_old.ensures in
-    record {
-      answer = there;
-      rows = did.rows;
-      set = λ up. struck less o.irreflexive o.transitive o.total x xs up true (items c.remove_old.new.self) there did.rows;
-      fewer = omega (arith, ap length did.rows, length_excluding_le less x xs);
-      unchanged = λ e. absurd (both_ways true e refl);
-      spare = λ n f. same_past _ _ (length (items c.remove_old.new.self)) n f did.spare;
-      room = did.room;
-      ascending = did.ascending;
-      members = λ h z. ap (member less z) did.rows ∙ member_excluding less o.irreflexive o.transitive o.total z x xs h;
-    }
+    λ z. ap (member less z) c.remove_old.ensures.rows ∙ member_excluding less o.irreflexive o.transitive o.total z c.args.x (items c.args.self.now) c.args.self.now.ascending

@@ -1,35 +1,33 @@
-use Rattle.std.proofs.Common.{sym, rules}
-use Rattle.pair.specs.Parted.{Parted}
-use Rattle.pair.proofs.Pairs.{strikes_first, strikes_second}
+use Rattle.std.proofs.Common.{min, sym, ap}
+use Rattle.pair.proofs.Pairs.{same_pair, strikes_first, strikes_second}
 use Rattle.pair.proofs.pair.PairRegister.strike.Goals as goal
 
-pub returns-then-is_scan : goal.returns-then-is_scan
-returns-then-is_scan g c =
-    let a = c.args.self.now.first in
-    let b = c.args.self.now.second in
-    let done =
-    λ (k : Parted (g.A.Register.sound a) (g.B.Register.sound b) (g.A.Register.duties a) (g.B.Register.duties b) (g.A.Register.places a) (g.B.Register.places b)).
-    strikes_first k c.args.d c.strike.result (sym c.if-is_scan.ensures) (g.A.Register.duties c.strike.new.self) (c.strike.ensures.stays k.first_sound) c.strike.ensures.room (g.B.Register.lawful b k.second_sound).ascending (c.strike.ensures.does k.first_sound) in
-    record {
-      does = λ k. (done k).0;
-      unchanged = search rules;
-      room = search rules;
-      spares = search rules;
-      stays = λ k. (done k).1;
-    }
+pub invariant_of-self : goal.invariant_of-self
+invariant_of-self g c =
+    let p = c.args.self.now in
+    record { parted = (strikes_first p.parted c.args.d c.strike.result (sym c.if-is_scan.ensures) _ (ap (λ n. min n (g.B.Register.places p.second)) c.strike.ensures.room) (g.met.B.Register.lawful p.second).ascending c.strike.ensures.does).1 }
 
-pub returns-else-is_scan : goal.returns-else-is_scan
-returns-else-is_scan g c =
-    let a = c.args.self.now.first in
-    let b = c.args.self.now.second in
-    let done =
-    λ (k : Parted (g.A.Register.sound a) (g.B.Register.sound b) (g.A.Register.duties a) (g.B.Register.duties b) (g.A.Register.places a) (g.B.Register.places b)).
-    let kept = c.strike-else-is_scan.ensures.stays k.second_sound in
-    strikes_second k c.args.d c.strike-else-is_scan.result (sym c.if-is_scan.ensures) (g.B.Register.duties c.strike-else-is_scan.new.self) kept c.strike-else-is_scan.ensures.room (g.B.Register.lawful c.strike-else-is_scan.new.self kept).ascending (c.strike-else-is_scan.ensures.does k.second_sound) in
-    record {
-      does = λ k. (done k).0;
-      unchanged = search rules;
-      room = search rules;
-      spares = search rules;
-      stays = λ k. (done k).1;
-    }
+pub invariant_of-self-else-is_scan : goal.invariant_of-self-else-is_scan
+invariant_of-self-else-is_scan g c =
+    let p = c.args.self.now in
+    record { parted = (strikes_second p.parted c.args.d c.strike-else-is_scan.result (sym c.if-is_scan.ensures) _ (ap (λ n. min (g.A.Register.places p.first) n) c.strike-else-is_scan.ensures.room) (g.met.B.Register.lawful c.strike-else-is_scan.new.self).ascending c.strike-else-is_scan.ensures.does).1 }
+
+pub returns-then-is_scan-clause-does : goal.returns-then-is_scan-clause-does
+returns-then-is_scan-clause-does g c =
+    let p = c.args.self.now in
+    (strikes_first p.parted c.args.d c.strike.result (sym c.if-is_scan.ensures) _ (ap (λ n. min n (g.B.Register.places p.second)) c.strike.ensures.room) (g.met.B.Register.lawful p.second).ascending c.strike.ensures.does).0
+
+pub returns-else-is_scan-clause-does : goal.returns-else-is_scan-clause-does
+returns-else-is_scan-clause-does g c =
+    let p = c.args.self.now in
+    (strikes_second p.parted c.args.d c.strike-else-is_scan.result (sym c.if-is_scan.ensures) _ (ap (λ n. min (g.A.Register.places p.first) n) c.strike-else-is_scan.ensures.room) (g.met.B.Register.lawful c.strike-else-is_scan.new.self).ascending c.strike-else-is_scan.ensures.does).0
+
+pub returns-then-is_scan-clause-unchanged : goal.returns-then-is_scan-clause-unchanged
+returns-then-is_scan-clause-unchanged g c = λ f.
+    let p = c.args.self.now in
+    same_pair (λ a. g.A.Register.duties a) (λ a. g.B.Register.duties p.second) (λ a. min (g.A.Register.places a) (g.B.Register.places p.second)) (λ a t. record { first = a; second = p.second; parted = t }) (c.strike.ensures.unchanged f) _ p.parted
+
+pub returns-else-is_scan-clause-unchanged : goal.returns-else-is_scan-clause-unchanged
+returns-else-is_scan-clause-unchanged g c = λ f.
+    let p = c.args.self.now in
+    same_pair (λ b. g.A.Register.duties p.first) (λ b. g.B.Register.duties b) (λ b. min (g.A.Register.places p.first) (g.B.Register.places b)) (λ b t. record { first = p.first; second = b; parted = t }) (c.strike-else-is_scan.ensures.unchanged f) _ p.parted

@@ -1,6 +1,5 @@
--- Each clause is found by itself; all at once are too many for one search.
-use borrow.Author.Rules.{rules}
+use Rattle.shelf.proofs.Shelves.{same_shelf}
 use Rattle.shelf.proofs.shelf.ShelfRegister.enter.Goals as goal
 
-pub returns : goal.returns
-returns c = record { does = search rules; unchanged = search rules; room = search rules; spares = search rules; stays = search rules }
+pub returns-clause-unchanged : goal.returns-clause-unchanged
+returns-clause-unchanged c = λ u. same_shelf _ c.args.self.now (c.insert_up_to.ensures.unchanged u)
