@@ -23,7 +23,7 @@ use Rattle.chain.proofs.Leads.{Inside, Leads, walk_leads, leads_walk, leads_join
 use Rattle.chain.proofs.Relinked.{length_walk, length_from, length_chained, free_inside, moved, spares_set, spares_from, Becomes}
 use Rattle.chain.proofs.Staying.{no_row_moves}
 
--- the duty d is entered into a sound chain, which answers r
+-- the duty d is entered into a chain in order, which answers r
 abbrev pub Enters : List Link → Ends → Duty → Bool → List Link → Ends → Type 0
 Enters rows e d r = Becomes (λ ds. Entered d r (chained rows e) ds (room_of rows)) rows e
 

@@ -22,7 +22,7 @@ pub length_from : (rows : List Link) (prev : Option ℕ) (to : ℕ) → length (
 length_from rows None to = refl
 length_from rows (Some p) to = length-set rows p _
 
--- what holds of a sound chain's places and count
+-- what holds of the places and the count of a chain in order
 module _ (rows : List Link) (e : Ends) (k : Linked rows e) where
   pub used_inside : Inside rows (used rows e)
   used_inside p m = omega (arith, k.inside p (in_left p (used rows e) (free rows e) m))
@@ -54,7 +54,7 @@ pub spares_from : (rows : List Link) (prev : Option ℕ) (to : ℕ) → ((p : �
 spares_from rows None to h = record { as_many = refl; past_the_room = refl }
 spares_from rows (Some p) to h = spares_set rows p _ (h p refl)
 
--- a sound chain becomes a sound one, whose set is as it should be
+-- a chain in order becomes another one, whose set is as it should be
 pub record Becomes (Set : List Duty → Type 0) (rows : List Link) (e : Ends) (rows' : List Link) (e' : Ends) : Type 0 where
   pub does : Set (chained rows' e')
   pub spares : SpareRowsLeftOpen rows rows'

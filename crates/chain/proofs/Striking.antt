@@ -21,7 +21,7 @@ use Rattle.chain.proofs.Leads.{Inside, Leads, walk_leads, leads_walk, leads_join
 use Rattle.chain.proofs.Relinked.{length_walk, length_from, count_fits, moved, spares_set, spares_from, Becomes}
 use Rattle.chain.proofs.Staying.{no_row_moves}
 
--- the duty d is struck from a sound chain, which answers r
+-- the duty d is struck from a chain in order, which answers r
 abbrev pub Strikes : List Link → Ends → Duty → Bool → List Link → Ends → Type 0
 Strikes rows e d r = Becomes (Struck d r (chained rows e)) rows e
 

@@ -18,7 +18,7 @@ pub struct Chain<'a> {
     rows: &'a mut [Link],
     ends: Ends,
     // Every chain is in order, so no call has to ask for it.
-    ghost linked: { Linked rows.now ends } by { Linked_prop rows.now ends },
+    pub ghost linked: { Linked rows.now ends } by { Linked_prop rows.now ends },
 }
 
 impl<'a> Chain<'a> {
@@ -75,7 +75,7 @@ impl<'a> Register for Chain<'a> {
         first_above(self.rows, self.ends, from)
     }
 
-    // What a register promises, and that no row moves.
+    // What a register promises, and that no row moves. The clauses are said in full, since they stand in place of the trait's.
     fn enter(&mut self, d: Duty) -> bool
         ensures does { Entered d result (chained self.old.rows.now self.old.ends) (chained self.new.rows.now self.new.ends) (room_of self.old.rows.now) }
         ensures unchanged { (result ≡ false) ⊎ (d ∈ chained self.old.rows.now self.old.ends) → self.new ≡ self.old }

@@ -1,5 +1,6 @@
 // What entering, striking and clearing do to the rows of a chain, and to its ends.
 // That a spot lies within the rows is a fact about two values, the spot and the rows, so no type can keep it: it stands as a premise.
+// These are no methods of `Chain`: a method would use the whole chain, which is out of order in between.
 ghost use Rattle.std.specs.Prelude.{◌≡◌, ℕ, ◌<◌, [], length, Some};
 ghost use Rattle.registers.specs.Meaning.{SpareRowsLeftOpen};
 ghost use Rattle.chain.specs.Links.{aimed_from, begins, linked_in, ends_with, taken_out, ends_without, Strung};

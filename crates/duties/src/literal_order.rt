@@ -10,7 +10,8 @@ use crate::duty::Literal;
 use std::cmp::Ordering;
 
 impl Literal {
-    fn point(self) -> u8
+    // The point, whether it is to hold or not.
+    pub fn point(self) -> u8
         ensures { result ≡ point self }
     {
         match self {
@@ -18,7 +19,8 @@ impl Literal {
         }
     }
 
-    fn is_denied(self) -> bool
+    // Whether it is that the point does not hold.
+    pub fn is_denied(self) -> bool
         ensures { result ≡ denied self }
     {
         matches!(self, Literal::Not(_))

@@ -49,6 +49,7 @@ fn read_on_literal(points: NameList<'_>, bytes: &[u8]) -> Result<(Due, Literal),
     Ok((due, literal))
 }
 
+// The marks are bytes: a sheet is no text before it is read.
 impl Declared<'_> {
     pub(crate) fn read_duty(&self, bytes: &[u8]) -> Result<DutyPattern, Cause>
         ensures { result ≡ duty_of self.now.tags.names.now self.now.points.names.now bytes.now }

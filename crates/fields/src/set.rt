@@ -8,7 +8,7 @@ use crate::name_list::NameList;
 use duties::TagSet;
 use text::{Token, Tokens};
 
-// That a word is names joined by `+`.
+// That a word is names joined by `+`. It is gone over once for the shape and once for the set, since every shape of a field comes before any value.
 pub(crate) fn check_names(word: &[u8]) -> Result<(), Cause>
     ensures { result ≡ named (parts word.now) }
 {

@@ -1,9 +1,9 @@
 // A line, read into a table.
-ghost use Rattle.std.specs.Prelude.{◌≡◌, ◌≤◌, true, Ok as Good, Err as Bad, MatchResult};
-ghost use Rattle.sheets.specs.Sheets.{blank, content, lawful};
+ghost use Rattle.std.specs.Prelude.{◌≡◌, true, Ok as Good, Err as Bad, MatchResult};
+ghost use Rattle.sheets.specs.Sheets.{content, lawful};
 ghost use Rattle.names.specs.Names.{name_before};
 ghost use Rattle.ordered.specs.Ascending.{holding};
-ghost use Rattle.ordered.specs.Rows.{capacity, items};
+ghost use Rattle.ordered.specs.Rows.{items};
 ghost use Rattle.lines.specs.Lines.{name_of_field, new_name, one_field};
 ghost use Rattle.text.specs.Split.{split};
 ghost use Rattle.lines.specs.Reads.{Indexes, LineRead};
@@ -51,33 +51,36 @@ fn read_name(known: &OrderedRows<Name>, so_far: usize, bytes: &[u8]) -> Result<N
 }
 
 // A table that lines are read into, and the names that it declares, in order.
-// Both are lent, each at a lifetime of its own: of rows held by value, or lent at the table's lifetime, no caller can show what its table is afterwards.
+// Both are lent, each at a lifetime of its own: with rows held by value, or lent at the table's lifetime, a caller could not show what its table is afterwards.
+// `same_table` and `same_known` say that the draft stays on what it was lent, which is how a caller shows that.
 #[derive(Drop)]
 pub struct Draft<'t, 'k, 'r> {
     table: &'t mut Table,
     known: &'k mut OrderedRows<'r, Name>,
     pub ghost lawful: { lawful (content table.now) ≡ true },
-    ghost indexed: { Indexes known.now (content table.now) },
+    pub ghost indexed: { Indexes known.now (content table.now) },
 }
 
 impl<'t, 'k, 'r> Draft<'t, 'k, 'r> {
     ghost use Rattle.lines.specs.Drafts.{drafted};
 
-    // From nothing: the table and the rows are emptied.
+    // Over a lawful table and the index of just its names.
     pub fn over(table: &'t mut Table, known: &'k mut OrderedRows<'r, Name>) -> Draft<'t, 'k, 'r>
-        requires room { 128 ≤ capacity known.old }
-        ensures none { drafted result ≡ blank }
+        requires lawful { lawful (content table.old) ≡ true }
+        requires indexed { Indexes known.old (content table.old) }
+        ensures table { drafted result ≡ content table.old }
         ensures same_table { result.table.ghost_name ≡ table.entry.ghost_name }
+        ensures same_known { result.known.ghost_name ≡ known.entry.ghost_name }
     {
-        table.clear();
-        known.clear();
         Draft { table, known }
     }
 
     // The table with what one more line declares; at a fault, the table as it was.
+    // A tag and a point are read alike and go to different places: one function over both would take that as a flag.
     pub fn read_record(&mut self, line: &[u8]) -> Result<(), LineCause>
         ensures read { LineRead result (drafted self.old) (drafted self.new) line.now }
         ensures same_table { self.new.table.ghost_name ≡ self.old.table.ghost_name }
+        ensures same_known { self.new.known.ghost_name ≡ self.old.known.ghost_name }
     {
         if let Some(rest) = after(line, b"tag\t") {
             let name = read_name(self.known, self.table.tags().len(), rest)?;

@@ -53,7 +53,7 @@ fn hex(digit: u8) -> u8
     }
 }
 
-// The number of the last six digits.
+// The number of the last six digits, of whatever bytes: `value_up_to` would refuse a larger one.
 fn number(digits: &[u8]) -> u32 {
     digits
         .iter()

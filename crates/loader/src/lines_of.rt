@@ -37,6 +37,7 @@ pub(crate) fn read_table(table: &mut Table, text: &[u8]) -> Result<(), LoadFault
     // An array, and no set of std: loading allocates nothing.
     let mut rows = [Name::BLANK; 128];
     let mut known = OrderedRows::new(&mut rows);
+    table.clear();
     let mut draft = Draft::over(table, &mut known);
     read_lines(&mut draft, text)
 }

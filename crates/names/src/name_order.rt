@@ -6,7 +6,7 @@ ghost use Rattle.names.specs.NameLaws.{name_irreflexive, name_transitive, name_t
 use crate::name::Name;
 use ordered::{Keyed, TotalOrder};
 
-// By the first bytes that differ. The derived comparison says the same, at twice the time of a whole load.
+// By the first bytes that differ. The derived comparison says the same, but a load takes three times as long with it.
 fn bytes_less(a: &[u8], b: &[u8]) -> bool
     ensures { result ≡ bytes_before a.now b.now }
 {

@@ -1,6 +1,7 @@
 ghost use Rattle.std.specs.Prelude.{◌≡◌, Bool, true, false};
 
 // A total order: of two unequal values just one is less, none is less than itself, and less carries over.
+// Beside `Ord`, since that lets unequal values compare equal, and leaves what is less to the type; here a definition says it.
 pub trait TotalOrder: Copy {
     ghost less: { Self → Self → Bool };
 

@@ -13,7 +13,7 @@ pub(crate) fn first<T: TotalOrder>(rows: &[T]) -> Option<T>
     rows.first().copied()
 }
 
-// How many rows at the front are less than x.
+// How many rows at the front are less than x, in a slice that need not ascend: of one that does not, `partition_point` says nothing.
 pub(crate) fn place<T: TotalOrder>(rows: &[T], x: T) -> usize
     ensures within { result ≤ length rows.now }
     ensures place { result ≡ placed T.less x rows.now }
@@ -24,7 +24,7 @@ pub(crate) fn place<T: TotalOrder>(rows: &[T], x: T) -> usize
         .unwrap_or(rows.len())
 }
 
-// Whether x is one of the rows, which ascend.
+// Whether x is one of the rows, where they ascend.
 pub(crate) fn holds<T: TotalOrder>(rows: &[T], x: T) -> bool
     ensures answer { result ≡ holding T.less x rows.now }
     ensures set { rising T.less rows.now ≡ true → result ≡ member T.less x rows.now }

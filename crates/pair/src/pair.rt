@@ -12,7 +12,7 @@ use registers::{Register, emptied};
 pub struct Pair<A: Register, B: Register> {
     first: A,
     second: B,
-    ghost parted: { Parted (A.Register.duties first) (B.Register.duties second) (min (A.Register.places first) (B.Register.places second)) },
+    pub ghost parted: { Parted (A.Register.duties first) (B.Register.duties second) (min (A.Register.places first) (B.Register.places second)) },
 }
 
 // Which of the two a duty belongs to: the first has those that ask for a scan.

@@ -9,6 +9,7 @@ use duties::Duty;
 
 // A register means a set of duties and a room, which is fixed. What it means is all that its calls promise to whoever is above them.
 // Its memory is always in order: a new register of any make is empty, whatever the memory held, and every call leaves it in order.
+// What a call leaves as it was is promised by each call (`unchanged`, `room`, `spares`): it is about before and after, so no type can keep it.
 pub trait Register {
     // The set, strictly ascending in the order of duties.
     ghost duties: { Self → List Duty };

@@ -5,7 +5,7 @@ use std::collections::BTreeSet;
 use std::ops::Bound;
 
 // A duty as it compares: by due minute, then scan, reach, hold, then by what is asked, a point before its denial.
-// The derives state this order a second time, on purpose: a trial that took it from crate duties would not try it.
+// The derives state this order, and these types a duty, a second time, on purpose: a trial that took them from crate duties would not try them.
 #[derive(Clone, Copy, PartialEq, Eq, PartialOrd, Ord)]
 pub(crate) struct Key {
     pub(crate) due: u32,

@@ -33,11 +33,11 @@ fn width(bytes: &[u8]) -> usize {
         .fold(0, |n, b| n.saturating_add(Shown(*b).width()))
 }
 
-// A line, and under it marks below the field of this number, counted from 1; with 0 no marks.
+// A line, and under it marks below the field that comes after so many, if one is to be marked.
 #[derive(Clone, Copy)]
 pub(crate) struct Marked<'a> {
     pub(crate) line: &'a [u8],
-    pub(crate) field: usize,
+    pub(crate) earlier: Option<usize>,
 }
 
 impl Marked<'_> {
@@ -60,7 +60,7 @@ impl fmt::Display for Marked<'_> {
             Shown(*b).fmt(f)?;
         }
         writeln!(f)?;
-        let Some(earlier) = self.field.checked_sub(1) else {
+        let Some(earlier) = self.earlier else {
             return Ok(());
         };
         let (before, marks) = self.place(earlier);

@@ -72,6 +72,8 @@ impl fmt::Display for Refused<'_> {
             return Ok(());
         }
         let line = find_line(self.text, line);
-        Marked { line, field }.fmt(f)
+        // The table says field 0 of a line that is refused as a whole.
+        let earlier = field.checked_sub(1);
+        Marked { line, earlier }.fmt(f)
     }
 }

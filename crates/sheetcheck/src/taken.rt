@@ -51,14 +51,11 @@ impl<'a, T> Told<'a, T> {
         }
     }
 
-    // The point of a literal, and whether it is to hold.
-    fn literal(&self, literal: Literal) -> (Named<'a>, bool) {
-        let (number, holds) = match literal {
-            Literal::Is(point) => (point, true),
-            Literal::Not(point) => (point, false),
-        };
-        let names = self.sheet.points();
-        (Named { names, number }, holds)
+    fn point(&self, literal: Literal) -> Named<'a> {
+        Named {
+            names: self.sheet.points(),
+            number: literal.point(),
+        }
     }
 }
 
@@ -87,11 +84,13 @@ impl fmt::Display for Told<'_, Task> {
                 write!(f, "to read {tags}{together}")
             }
             Task::Reach(literal) => {
-                let (point, value) = self.literal(literal);
+                let point = self.point(literal);
+                let value = !literal.is_denied();
                 write!(f, "to make {point} {value}")
             }
             Task::Hold(literal) => {
-                let (point, value) = self.literal(literal);
+                let point = self.point(literal);
+                let value = !literal.is_denied();
                 write!(f, "to keep {point} {value}")
             }
         }
@@ -155,7 +154,8 @@ impl fmt::Display for Told<'_, Condition> {
     fn fmt<W: fmt::Write>(&self, f: &mut fmt::Formatter<W>) -> fmt::Result {
         match self.part.0 {
             Statement::Literal(literal) => {
-                let (point, value) = self.literal(literal);
+                let point = self.point(literal);
+                let value = !literal.is_denied();
                 write!(f, "{point} is {value}")
             }
             Statement::Duty(duty) => {
@@ -178,7 +178,8 @@ impl fmt::Display for Told<'_, Effect> {
     fn fmt<W: fmt::Write>(&self, f: &mut fmt::Formatter<W>) -> fmt::Result {
         match self.part.0 {
             Statement::Literal(literal) => {
-                let (point, value) = self.literal(literal);
+                let point = self.point(literal);
+                let value = !literal.is_denied();
                 write!(f, "{point} becomes {value}")
             }
             Statement::Duty(duty) => {

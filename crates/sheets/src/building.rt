@@ -7,7 +7,7 @@ use duties::Order;
 use names::Name;
 use std::alloc::{AllocError, Global};
 
-// One method for each kind where kinds are read or added to: a field's name is no parameter, and each is a line.
+// One method for each kind where kinds are read or added to, each a line: a kind as an argument would need a match on it in each.
 impl Table {
     // An empty table, with memory for the most that a sheet may hold.
     pub fn new(heap: Global) -> Result<Table, AllocError>

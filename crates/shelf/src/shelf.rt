@@ -12,7 +12,7 @@ use registers::Register;
 #[derive(Drop)]
 pub struct Shelf<'a> {
     rows: OrderedRows<'a, Duty>,
-    ghost few: { length (items rows) ≤ 64 },
+    pub ghost few: { length (items rows) ≤ 64 },
 }
 
 impl<'a> Shelf<'a> {

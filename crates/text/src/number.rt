@@ -2,7 +2,7 @@
 ghost use Rattle.std.specs.Prelude.{◌≡◌, if◌then◌else◌, Some as Just, None as Nothing, nat_le};
 ghost use Rattle.text.specs.Spelling.{value};
 
-// The number that the digits write, where it is no more than the limit. It is told of any bytes, where `str::parse` would refuse some.
+// The number that the digits write, where it is no more than the limit. It is told of any bytes, as `value` counts them, where `str::parse` would refuse some.
 #[tactic(auto, using(crate::proofs::Values::value_next))]
 pub fn value_up_to(digits: &[u8], limit: u32) -> Option<u32>
     ensures { result ≡ (if nat_le (value 0 digits.now) limit then Just (value 0 digits.now) else Nothing) }

@@ -7,6 +7,8 @@ use crate::order::TotalOrder;
 use crate::places::{above, first, holds, insert_row, remove_row};
 use crate::rows::OrderedRows;
 
+// What a call leaves as it was is promised by each call (`spare`, `room`): it is about before and after, so no type can keep it.
+// That the rows ascend then (`ascending`) is promised too, although the type says it.
 impl<'a, T: TotalOrder> OrderedRows<'a, T> {
     pub fn new(rows: &'a mut [T]) -> OrderedRows<'a, T>
         ensures none { items result ≡ [] }
