@@ -1,15 +1,11 @@
 -- What tells that a piece is a name, and what is read of it. Assumes nothing.
-use Rattle.std.proofs.Common.{◌≡◌, ℕ, true, false, List, sym, refl, ap, ◌∙◌, inl, inr, arith, Bor}
+use Rattle.std.proofs.Common.{◌≡◌, ℕ, true, false, List, refl, ◌∙◌, inl, inr, arith, Bor}
 use Rattle.std.proofs.lemmas.Bool.{cases_Bool}
-use Rattle.grammar.proofs.Told.{is_named, names_told}
+use Rattle.grammar.proofs.Told.{names_told}
 use Rattle.text.specs.declared.token.Token.{Token}
 use Rattle.text.specs.declared.token.Token.TheVariants as V
 use Rattle.text.specs.Spelling.{is_name}
-use Rattle.text.specs.Tokens.{name, class_of, key_of, token_of}
-
--- a name token is of a name
-pub told_name : (w n : List ℕ) → name n ≡ class_of w → is_name w ≡ true
-told_name w n h = (names_told w).0 (sym h ∙ ap name (sym (is_named (key_of w) w n (sym h)).0))
+use Rattle.text.specs.Tokens.{name, class_of, token_of}
 
 no_token : (r : Token) (w : List ℕ) → ((x : Bor (List ℕ)) → r ≡ V.Name x → ⊥) → token_of r ≡ name w → ⊥
 no_token (V.Name x) w other h = other x refl

@@ -107,32 +107,44 @@ module _ {xs ys : List Duty} {room : ℕ} (p : Parted xs ys room) where
     lawful = record { ascending = rising_union xs' ys' on; fits = omega arith; small = omega (arith, p.lawful.small) };
   }
 
-  -- the first is changed, or the second
-  module _ (d : Duty) (r : Bool) (h : scan d ≡ true) (xs' : List Duty) {room' : ℕ} (same : room' ≡ room) (on : rising before ys ≡ true) where
-    pub strikes_first : Struck d r xs xs' → Struck d r (union before xs ys) (union before xs' ys) × Parted xs' ys room'
-    strikes_first k =
-        let done = struck_part d xs ys (union before xs ys) (λ e. in_union e xs ys) (not_in_second d h) r xs' (union before xs' ys) (λ e. in_union e xs' ys) k in
-        let fewer = struck_length d r (union before xs ys) (union before xs' ys) p.lawful.ascending (rising_union xs' ys on) done in
-        (done, stays_parted (λ e a. p.scans e ((k.each e).0 a).0) p.others on same (omega (arith, fewer, p.lawful.fits)))
+  -- the first is changed, or the second: what becomes of the set, and that the parts stay parted
+  module _ (d : Duty) (r : Bool) (h : scan d ≡ true) (xs' : List Duty) where
+    pub strikes_first : Struck d r xs xs' → Struck d r (union before xs ys) (union before xs' ys)
+    strikes_first = struck_part d xs ys (union before xs ys) (λ e. in_union e xs ys) (not_in_second d h) r xs' (union before xs' ys) (λ e. in_union e xs' ys)
 
-    pub enters_first : {places : ℕ} → room ≤ places → rising before xs ≡ true → length (union before xs ys) < room → Entered d r xs xs' places → Entered d r (union before xs ys) (union before xs' ys) room × Parted xs' ys room'
-    enters_first wide up within k =
-        let done = entered_part d xs ys (union before xs ys) (λ e. in_union e xs ys) (not_in_second d h) r xs' (union before xs' ys) (λ e. in_union e xs' ys) up p.lawful.ascending wide within k in
-        let one_more = entered_length d r (union before xs ys) (union before xs' ys) p.lawful.ascending (rising_union xs' ys on) done in
-        (done, stays_parted (λ e a. elim ((k.each e).0 a) [ inl b ↦ p.scans e b | inr q ↦ ap scan q.0 ∙ h ]) p.others on same (omega (arith, one_more)))
+    pub enters_first : {places : ℕ} → room ≤ places → rising before xs ≡ true → length (union before xs ys) < room → Entered d r xs xs' places → Entered d r (union before xs ys) (union before xs' ys) room
+    enters_first wide up within =
+        entered_part d xs ys (union before xs ys) (λ e. in_union e xs ys) (not_in_second d h) r xs' (union before xs' ys) (λ e. in_union e xs' ys) up p.lawful.ascending wide within
 
-  module _ (d : Duty) (r : Bool) (h : scan d ≡ false) (ys' : List Duty) {room' : ℕ} (same : room' ≡ room) (on : rising before ys' ≡ true) where
-    pub strikes_second : Struck d r ys ys' → Struck d r (union before xs ys) (union before xs ys') × Parted xs ys' room'
-    strikes_second k =
-        let done = struck_part d ys xs (union before xs ys) (λ e. in_union_second e xs ys) (not_in_first d h) r ys' (union before xs ys') (λ e. in_union_second e xs ys') k in
-        let fewer = struck_length d r (union before xs ys) (union before xs ys') p.lawful.ascending (rising_union xs ys' on) done in
-        (done, stays_parted p.scans (λ e a. p.others e ((k.each e).0 a).0) on same (omega (arith, fewer, p.lawful.fits)))
+    module _ {room' : ℕ} (same : room' ≡ room) (on : rising before ys ≡ true) where
+      pub first_struck : Struck d r xs xs' → Parted xs' ys room'
+      first_struck k =
+          let fewer = struck_length d r (union before xs ys) (union before xs' ys) p.lawful.ascending (rising_union xs' ys on) (strikes_first k) in
+          stays_parted (λ e a. p.scans e ((k.each e).0 a).0) p.others on same (omega (arith, fewer, p.lawful.fits))
 
-    pub enters_second : {places : ℕ} → room ≤ places → rising before ys ≡ true → length (union before xs ys) < room → Entered d r ys ys' places → Entered d r (union before xs ys) (union before xs ys') room × Parted xs ys' room'
-    enters_second wide up within k =
-        let done = entered_part d ys xs (union before xs ys) (λ e. in_union_second e xs ys) (not_in_first d h) r ys' (union before xs ys') (λ e. in_union_second e xs ys') up p.lawful.ascending wide within k in
-        let one_more = entered_length d r (union before xs ys) (union before xs ys') p.lawful.ascending (rising_union xs ys' on) done in
-        (done, stays_parted p.scans (λ e a. elim ((k.each e).0 a) [ inl b ↦ p.others e b | inr q ↦ ap scan q.0 ∙ h ]) on same (omega (arith, one_more)))
+      pub first_entered : {places : ℕ} → room ≤ places → rising before xs ≡ true → length (union before xs ys) < room → Entered d r xs xs' places → Parted xs' ys room'
+      first_entered wide up within k =
+          let one_more = entered_length d r (union before xs ys) (union before xs' ys) p.lawful.ascending (rising_union xs' ys on) (enters_first wide up within k) in
+          stays_parted (λ e a. elim ((k.each e).0 a) [ inl b ↦ p.scans e b | inr q ↦ ap scan q.0 ∙ h ]) p.others on same (omega (arith, one_more))
+
+  module _ (d : Duty) (r : Bool) (h : scan d ≡ false) (ys' : List Duty) where
+    pub strikes_second : Struck d r ys ys' → Struck d r (union before xs ys) (union before xs ys')
+    strikes_second = struck_part d ys xs (union before xs ys) (λ e. in_union_second e xs ys) (not_in_first d h) r ys' (union before xs ys') (λ e. in_union_second e xs ys')
+
+    pub enters_second : {places : ℕ} → room ≤ places → rising before ys ≡ true → length (union before xs ys) < room → Entered d r ys ys' places → Entered d r (union before xs ys) (union before xs ys') room
+    enters_second wide up within =
+        entered_part d ys xs (union before xs ys) (λ e. in_union_second e xs ys) (not_in_first d h) r ys' (union before xs ys') (λ e. in_union_second e xs ys') up p.lawful.ascending wide within
+
+    module _ {room' : ℕ} (same : room' ≡ room) (on : rising before ys' ≡ true) where
+      pub second_struck : Struck d r ys ys' → Parted xs ys' room'
+      second_struck k =
+          let fewer = struck_length d r (union before xs ys) (union before xs ys') p.lawful.ascending (rising_union xs ys' on) (strikes_second k) in
+          stays_parted p.scans (λ e a. p.others e ((k.each e).0 a).0) on same (omega (arith, fewer, p.lawful.fits))
+
+      pub second_entered : {places : ℕ} → room ≤ places → rising before ys ≡ true → length (union before xs ys) < room → Entered d r ys ys' places → Parted xs ys' room'
+      second_entered wide up within k =
+          let one_more = entered_length d r (union before xs ys) (union before xs ys') p.lawful.ascending (rising_union xs ys' on) (enters_second wide up within k) in
+          stays_parted p.scans (λ e a. elim ((k.each e).0 a) [ inl b ↦ p.others e b | inr q ↦ ap scan q.0 ∙ h ]) on same (omega (arith, one_more))
 
 -- that parts are parted has one proof, so pairs of equal parts are equal
 pub same_pair : {X P : Type 0} (xs ys : X → List Duty) (room : X → ℕ) (pair : (v : X) → Parted (xs v) (ys v) (room v) → P) {x y : X} → x ≡ y → (p : Parted (xs x) (ys x) (room x)) (q : Parted (xs y) (ys y) (room y)) → pair x p ≡ pair y q
