@@ -2,7 +2,7 @@
 ghost use Rattle.duties.specs.Duties.{before};
 ghost use Rattle.duties.specs.DutyLaws.{before_irreflexive, before_transitive, before_total};
 
-use crate::duty::Duty;
+use crate::duty::{Duty, Task};
 use ordered::TotalOrder;
 
 impl TotalOrder for Duty {
@@ -14,8 +14,19 @@ impl TotalOrder for Duty {
 
     ghost total = { before_total };
 
-    #[tactic(auto, using(crate::proofs::Orders::less_before))]
+    // The derived `<` says the same, but rows are gone over by this test: with `<` a chain took up to half as long again to find a duty among those of one minute.
+    // The minutes mostly decide, so they are compared first.
+    #[tactic(auto, using(crate::proofs::Orders::literal_before))]
     fn is_less(&self, other: &Duty) -> bool {
-        self < other
+        if self.due != other.due {
+            return self.due < other.due;
+        }
+        match (self.task, other.task) {
+            (Task::Scan(tags), Task::Scan(others)) => tags.0 < others.0,
+            (Task::Reach(literal), Task::Reach(other)) | (Task::Hold(literal), Task::Hold(other)) =>
+                literal < other,
+            (Task::Scan(_), _) | (Task::Reach(_), Task::Hold(_)) => true,
+            _ => false,
+        }
     }
 }

@@ -17,7 +17,7 @@ fn check_name(word: &[u8]) -> Result<(), Cause>
     }
 }
 
-// That a word has the shape of a literal.
+// That a word has the shape of a literal. Apart from finding it, since every shape of a field comes before any value.
 pub(crate) fn check_literal(word: &[u8]) -> Result<(), Cause>
     ensures { result ≡ literal_shape word.now }
 {

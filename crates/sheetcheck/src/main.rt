@@ -10,7 +10,7 @@ use refused::Refused;
 use sheets::Sheet;
 use std::alloc::Global;
 use std::fs::File;
-use std::io::Read;
+use std::io::{Read, Write};
 use std::{env, io};
 use taken::Taken;
 
@@ -48,7 +48,8 @@ fn run(rt: &HostRuntime) -> anyhow::Result<()> {
         Ok(()) => Taken(&sheet).to_string(heap)?,
         Err(fault) => Refused { text: &text, fault }.to_string(heap)?,
     };
-    print!(rt; "{page}")?;
+    // In one write: `print!` would cut a long page into pieces, between which another program's lines may come, or the reader may go.
+    rt.stdout().write_all(page.as_bytes())?;
     Ok(())
 }
 
