@@ -5,8 +5,7 @@ use Rattle.std.specs.declared.cmp.Ordering.{Ordering}
 use Rattle.std.specs.declared.cmp.Ordering.TheVariants.{Less, Equal, Greater}
 use Rattle.std.specs.Ordering.{is_lt, is_some_and, nat_cmp, ordering_then, partial_lt}
 use Rattle.duties.specs.Duties.{asked, before, count, first_by, kind}
-use Rattle.duties.specs.contracts.literal_order.LiteralOrd.TheImpl as literal
-use Rattle.duties.specs.contracts.literal_order.LiteralPartialOrd.TheImpl as literal_partial
+use Rattle.duties.specs.contracts.literal_order.LiteralPartialOrd.TheImpl as literal
 use Rattle.duties.specs.contracts.duty.TaskOrd.TheImpl as task
 use Rattle.duties.specs.contracts.duty.DutyOrd.TheImpl as duty
 use Rattle.duties.specs.contracts.duty.DutyOrd.TheImpl.Laws as laws
@@ -23,7 +22,8 @@ next_less a b Less = grind (arith, nat_tests)
 next_less a b Equal = grind (arith, nat_tests)
 next_less a b Greater = grind (arith, nat_tests)
 
-literal_less : (l m : Literal) → is_lt (literal.ghosts.cmp l m) ≡ ltb (count l) (count m)
+-- literals, as `<` tests them and as the order of tasks has them
+pub literal_less : (l m : Literal) → partial_lt literal.ghosts.partial_cmp l m ≡ ltb (count l) (count m)
 literal_less (Is n) (Is k) = grind (arith, nat_tests)
 literal_less (Is n) (Not k) = grind (arith, nat_tests)
 literal_less (Not n) (Is k) = grind (arith, nat_tests)
@@ -46,7 +46,3 @@ compared_before d e = next_less d.due e.due (task.ghosts.cmp d.task e.task) ∙ 
 
 pub less_before : (d e : Duty) → partial_lt partial.ghosts.partial_cmp d e ≡ before d e
 less_before d e = ap (is_some_and is_lt) (laws.matches_partial_cmp-law d e) ∙ compared_before d e
-
--- one literal, tested as `<` does
-pub literal_before : (l m : Literal) → partial_lt literal_partial.ghosts.partial_cmp l m ≡ ltb (count l) (count m)
-literal_before l m = literal_less l m
